@@ -52,6 +52,9 @@ levels-least n l h = by-size (λ k. 1 ≤ k) n l h (λ _. omega arith) (λ _ _. 
 pub levels-most : (n : ℕ) → 1 ≤ n → n ≤ 4096 → levels n ≤ 3
 levels-most n l h = by-size (λ k. k ≤ 3) n l h (λ _. omega arith) (λ _ _. omega arith) (λ _. omega arith)
 
+pub level-few : (n l : ℕ) → 1 ≤ n → n ≤ 4096 → l < levels n → l < 3
+level-few n l least most h = omega (arith, levels-most n least most)
+
 -- a number of m digits below 2 ^ j has at most j, and one that is not has more
 digits-most : (a m j : ℕ) → a < 2 ^ j → 2 ^ m ≤ 2 * a + 1 → m ≤ j
 digits-most a m j h l =
@@ -140,9 +143,9 @@ pub total-split : (n : ℕ) → 1 ≤ n → n ≤ 4096 → start n 0 + up n ≡ 
 total-split n least most = omega (arith, start-split n 0 (levels-least n least most))
 
 -- a block of the level below stands at a place of level l
-pub place-shifted : (n l k : ℕ) → (start n l + k / 2 ^ (4 * l) / 16, k / 2 ^ (4 * l) % 16) ≡ place n l k
+pub place-shifted : (n l k s : ℕ) → s ≡ start n l → (s + k / 2 ^ (4 * l) / 16, k / 2 ^ (4 * l) % 16) ≡ place n l k
 unfolding place
-place-shifted n l k =
+place-shifted n l k s at =
     let e = sixteens l in
     let far : k / 2 ^ (4 * l) / 16 ≡ k / 16 ^ suc l = ap (λ p. k / p / 16) e ∙ div-div-eq-div-mul k (16 ^ l) 16 ∙ ap (λ p. k / p) (sym (pow-suc 16 l)) in
-    (λ i. (start n l + far i, k / e i % 16))
+    (λ i. (at i + far i, k / e i % 16))

@@ -26,6 +26,14 @@ impl Geometry {
         }
     }
 
+    // For a number that is known to be in range.
+    pub(crate) fn known(blocks: usize) -> Geometry
+        requires { ⌜ 1 ≤ blocks ⌝ ∗ ⌜ blocks ≤ 4096 ⌝ }
+        ensures { λ r. ⌜ r .blocks ≡ blocks ⌝ }
+    {
+        Geometry { blocks }
+    }
+
     // The number N of data blocks.
     pub fn blocks(&self) -> usize
         ensures { λ r. ⌜ r ≡ now (self .entry) .blocks ⌝ }
@@ -70,14 +78,14 @@ impl Geometry {
         self.start_of(0) + self.width_of(0)
     }
 
-    fn width_of(&self, level: usize) -> usize
+    pub(crate) fn width_of(&self, level: usize) -> usize
         requires { ⌜ level < levels (now self .blocks) ⌝ }
         ensures { λ r. ⌜ r ≡ width (now (self .entry) .blocks) level ⌝ }
     {
         ((self.blocks - 1) >> (4 * level + 4)) + 1
     }
 
-    fn start_of(&self, level: usize) -> usize
+    pub(crate) fn start_of(&self, level: usize) -> usize
         requires { ⌜ level < levels (now self .blocks) ⌝ }
         ensures { λ r. ⌜ r ≡ start (now (self .entry) .blocks) level ⌝ }
     {
@@ -88,23 +96,23 @@ impl Geometry {
         above
     }
 
-    // Where the image of a block stands: the tree block's number on the tree device, and the cell in it. `block` counts on the level
-    // below `level`, which for level 0 is the data.
-    pub(crate) fn cell_of(&self, level: usize, block: usize) -> (usize, usize)
-        requires { ⌜ level < levels (now self .blocks) ⌝ ∗ ⌜ block < 4096 ⌝ }
-        ensures { λ r. ⌜ r ≡ (start (now (self .entry) .blocks) level + block / 16, block % 16) ⌝ }
-    {
-        (self.start_of(level) + block / 16, block % 16)
-    }
-
     // The place of data block `block` at a level: the tree block's number on the tree device, and the cell in it.
     pub fn place(&self, level: usize, block: usize) -> Option<(usize, usize)>
         ensures { λ r. ⌜ Cases r ((level < levels (now (self .entry) .blocks)) × (block < now (self .entry) .blocks) → ⊥) (λ p. (level < levels (now (self .entry) .blocks)) × (block < now (self .entry) .blocks) × (p ≡ place (now (self .entry) .blocks) level block)) ⌝ }
     {
         if level < self.levels() && block < self.blocks {
-            Some(self.cell_of(level, block >> (4 * level)))
+            Some(cell_of(self.start_of(level), block >> (4 * level)))
         } else {
             None
         }
     }
+}
+
+// Where the image of a block stands in the level above it, which starts at block `start` of the tree device: the tree block's number
+// and the cell in it. `block` counts within its own level, or in the data.
+pub(crate) fn cell_of(start: usize, block: usize) -> (usize, usize)
+    requires { ⌜ start + block < 65536 ⌝ }
+    ensures { λ r. ⌜ r ≡ (start + block / 16, block % 16) ⌝ }
+{
+    (start + block / 16, block % 16)
 }
