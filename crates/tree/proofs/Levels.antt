@@ -5,7 +5,7 @@ use mathlib.Core.List.{List, [], _∷_, _++_, map, append-assoc, append-nil}
 use Prim.Native.Nat.{ℕ, zero, suc, _+_, _-_, _*_, _/_, _%_, _≤_, _<_}
 use native.Mathlib.Omega.{arith}
 use lib.ListN.{take-append-drop, length, getD, set, take, drop, replicate, length-append, length-take, length-drop, length-replicate, length-set, length-map}
-use Rattle.std.proofs.shelf.Lists.{getD-map, drop-drop, set-append-left, set-append-right, getD-append-left, getD-append-right, getD-drop, length-take-le, take-all, take-more, set-at}
+use Rattle.std.proofs.shelf.Lists.{getD-map, getD-take, drop-drop, set-append-left, set-append-right, getD-append-left, getD-append-right, getD-drop, length-take-le, take-all, take-more, set-at}
 use Rattle.tree.specs.Geometry.{up, width, lower}
 use Rattle.tree.specs.Layout.{zero-block, pack, put-cell, level, stacked}
 use Rattle.tree.proofs.Cells.{Wide, wide-at, wide-take, wide-append, wide-replicate, length-pack, pack-set, pack-zeros, zero-cell, length-zero-cell}
@@ -68,6 +68,17 @@ module _ (before : List (List ℕ)) (at : ℕ) (cells : List (List ℕ)) (room :
       let whole : first cells j ≡ cells = (λ k. take-all j cells h k ++ replicate (none k) zero-cell) ∙ append-nil cells in
       laid ∙ ap (λ l. take at before ++ (pack l ++ drop (at + up (length cells)) before)) whole
 
+  -- what lies past the level stands
+  pub laid-past : (j : ℕ) (after : List (List ℕ)) (k : ℕ) (d : List ℕ) → j ≤ length cells → Laid before at cells j after → at + up (length cells) ≤ k → getD after k d ≡ getD before k d
+  laid-past j after k d h laid past =
+      let w = up (length cells) in
+      let x = pack (first cells j) in
+      let front : length (take at before) ≡ at = length-take-le at before (omega arith) in
+      let blocks : length x ≡ w = length-pack (first cells j) ∙ ap up (length-first cells j h) in
+      let back : at + w + (k - at - w) ≡ k = omega arith in
+      ap (λ l. getD l k d) laid ∙ getD-append-right (take at before) (x ++ drop (at + w) before) at k d front (omega arith)
+      ∙ getD-append-right x (drop (at + w) before) w (k - at) d blocks (omega arith) ∙ getD-drop (at + w) before (k - at - w) d ∙ ap (λ n. getD before n d) back
+
 -- the same, where the cells are images of blocks
 module _ (image : List ℕ → List ℕ) (wide : (block : List ℕ) → length (image block) ≡ 32) (before below : List (List ℕ)) (at : ℕ) (room : at + up (length below) ≤ length before) where
   wide-images : (blocks : List (List ℕ)) → Wide (map image blocks)
@@ -90,3 +101,30 @@ module _ (image : List ℕ → List ℕ) (wide : (block : List ℕ) → length (
   pub images-all : (j : ℕ) (after : List (List ℕ)) → length below ≤ j → Laid before at (map image below) j after → after ≡ take at before ++ (pack (map image below) ++ drop (at + up (length below)) before)
   images-all j after h laid =
       laid-all before at (map image below) fits j after (omega (arith, length-map below image)) laid ∙ ap (λ n. take at before ++ (pack (map image below) ++ drop (at + up n) before)) (length-map below image)
+
+-- the same, where the blocks are a level of the tree itself
+module _ (image : List ℕ → List ℕ) (wide : (block : List ℕ) → length (image block) ≡ 32) (before : List (List ℕ)) (from count to : ℕ) (apart : to + up count ≤ from) (room : from + count ≤ length before) where
+  abbrev lower-level : List (List ℕ)
+  lower-level = take count (drop from before)
+
+  its-length : length lower-level ≡ count
+  its-length = length-take-le count (drop from before) (omega (arith, length-drop from before))
+
+  its-room : to + up (length lower-level) ≤ length before
+  its-room = omega (arith, its-length)
+
+  pub raised-none : take (up count) (drop to before) ≡ replicate (up count) zero-block → Laid before to (map image lower-level) 0 before
+  raised-none empty = images-none image wide before lower-level to its-room (subst (λ n. take (up n) (drop to before) ≡ replicate (up n) zero-block) (sym its-length) empty)
+
+  pub raised-more : (j : ℕ) (after next : List (List ℕ)) (place : ℕ × ℕ) (cell : List ℕ) → j < count → Laid before to (map image lower-level) j after → place ≡ (to + j / 16, j % 16)
+    → cell ≡ image (getD after (from + j) []) → next ≡ set after (place .0) (put-cell (getD after (place .0) []) (place .1) cell) → Laid before to (map image lower-level) (j + 1) next
+  raised-more j after next place cell h laid is read put =
+      let cells = length-map lower-level image in
+      let same : getD after (from + j) [] ≡ getD lower-level j [] =
+          laid-past before to (map image lower-level) (omega (arith, cells, its-room)) j after (from + j) [] (omega (arith, cells, its-length)) laid (omega (arith, cells, its-length))
+          ∙ sym (getD-take count (drop from before) j [] h ∙ getD-drop from before j []) in
+      images-more image wide before lower-level to its-room j after next place cell (omega (arith, its-length)) laid is (read ∙ ap image same) put
+
+  pub raised-all : (j : ℕ) (after : List (List ℕ)) → count ≤ j → Laid before to (map image lower-level) j after → after ≡ take to before ++ (pack (map image lower-level) ++ drop (to + up count) before)
+  raised-all j after h laid =
+      images-all image wide before lower-level to its-room j after (omega (arith, its-length)) laid ∙ ap (λ n. take to before ++ (pack (map image lower-level) ++ drop (to + up n) before)) its-length

@@ -149,3 +149,6 @@ place-shifted n l k s at =
     let e = sixteens l in
     let far : k / 2 ^ (4 * l) / 16 ≡ k / 16 ^ suc l = ap (λ p. k / p / 16) e ∙ div-div-eq-div-mul k (16 ^ l) 16 ∙ ap (λ p. k / p) (sym (pow-suc 16 l)) in
     (λ i. (at i + far i, k / e i % 16))
+
+pub total-least : (n : ℕ) → 1 ≤ n → n ≤ 4096 → 1 ≤ total n
+total-least n least most = omega (arith, total-split n least most)

@@ -34,9 +34,9 @@ module _ (image : List ℕ → List ℕ) where
   stacked (suc l) contents = level l contents ++ stacked l contents
 
   -- the blocks of the tree device from block 0 on: all levels, the top first
-  unfoldable pub tree : List (List ℕ) → List (List ℕ)
-  tree contents = stacked (levels (length contents)) contents
+  unfoldable pub tree-of : List (List ℕ) → List (List ℕ)
+  tree-of contents = stacked (levels (length contents)) contents
 
   -- the image of the top block
-  unfoldable pub root : List (List ℕ) → List ℕ
-  root contents = image (getD (tree contents) 0 [])
+  unfoldable pub root-of : List (List ℕ) → List ℕ
+  root-of contents = image (getD (tree-of contents) 0 [])

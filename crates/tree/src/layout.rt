@@ -6,7 +6,7 @@ ghost use lib.ListN.{length, getD, set, take, drop, replicate};
 ghost use Rattle.std.specs.Of.Vec.{vec-items};
 ghost use Rattle.std.specs.Vec.{made};
 ghost use Rattle.tree.specs.Geometry.{up, total};
-ghost use Rattle.tree.specs.Layout.{zero-block, pack, put-cell, tree, root};
+ghost use Rattle.tree.specs.Layout.{zero-block, pack, put-cell, tree-of, root-of};
 use crate::contents::Contents;
 use crate::contents::zero_blocks;
 use crate::geometry::Geometry;
@@ -34,5 +34,64 @@ fn lay_level<H: Hash>(hash: &H, below: &[[u8; 512]], tree: &mut [[u8; 512]], sta
 {
     for (i, block) in below.iter().enumerate() {
         put_cell(tree, cell_of(start, i), &hash.image_of(block));
+    }
+}
+
+// Fills the level from block `to` on, still zero, with the images of the `count` tree blocks from block `from` on.
+fn raise_level<H: Hash>(hash: &H, tree: &mut [[u8; 512]], from: usize, count: usize, to: usize)
+    requires apart { ⌜ to + up count ≤ from ⌝ }
+    requires room { ⌜ from + count ≤ length (now tree) ⌝ ∗ ⌜ length (now tree) ≤ 4096 ⌝ }
+    requires empty { ⌜ take (up count) (drop to (now tree)) ≡ replicate (up count) zero-block ⌝ }
+    ensures { λ _. ⌜ now (tree .exit) ≡ take to (now (tree .entry)) ++ (pack (map (H·Hash .image (now (hash .entry))) (take count (drop from (now (tree .entry))))) ++ drop (to + up count) (now (tree .entry))) ⌝ }
+{
+    for i in 0..count {
+        let cell = hash.image_of(&tree[from + i]);
+        put_cell(tree, cell_of(to, i), &cell);
+    }
+}
+
+// Makes the tree in blocks that are all zero.
+fn fill<H: Hash>(hash: &H, geometry: Geometry, contents: &[[u8; 512]], tree: &mut [[u8; 512]])
+    requires { ⌜ length (now contents) ≡ geometry .blocks ⌝ ∗ ⌜ now tree ≡ replicate (total (geometry .blocks)) zero-block ⌝ }
+    ensures { λ _. ⌜ now (tree .exit) ≡ tree-of (H·Hash .image (now (hash .entry))) (now (contents .entry)) ⌝ }
+{
+    lay_level(hash, contents, tree, geometry.start_of(0));
+    for level in 0..geometry.levels() - 1 {
+        let from = geometry.start_of(level);
+        raise_level(hash, tree, from, geometry.width_of(level), geometry.start_of(level + 1));
+    }
+}
+
+// All levels as they lie on the tree device, the top first, and the image of the top block.
+#[derive(Drop)]
+pub struct Tree {
+    blocks: Vec<[u8; 512]>,
+    root: [u8; 32],
+}
+
+impl Tree {
+    // The tree over the contents. It takes one image of each data block and of each tree block.
+    pub fn over<H: Hash>(heap: Global, hash: &H, contents: &Contents) -> Result<Tree, AllocError>
+        ensures { λ r. ⌜ made r (λ t. (vec-items (t .blocks) ≡ tree-of (H·Hash .image (now (hash .entry))) (vec-items (now (contents .entry) .blocks))) × (t .root ≡ root-of (H·Hash .image (now (hash .entry))) (vec-items (now (contents .entry) .blocks)))) ⌝ }
+    {
+        let geometry = contents.geometry();
+        let below = contents.blocks();
+        let mut blocks = zero_blocks(heap, geometry.total())?;
+        fill(hash, geometry, below, blocks.as_mut_slice());
+        let root = hash.image_of(&blocks[0]);
+        Ok(Tree { blocks, root })
+    }
+
+    // The blocks of the tree device from block 0 on.
+    pub fn blocks(&self) -> &[[u8; 512]]
+        ensures { λ r. ⌜ now r ≡ vec-items (now (self .entry) .blocks) ⌝ }
+    {
+        self.blocks.as_slice()
+    }
+
+    pub fn root(&self) -> [u8; 32]
+        ensures { λ r. ⌜ r ≡ now (self .entry) .root ⌝ }
+    {
+        self.root
     }
 }
