@@ -2,3 +2,6 @@
 pub mod contents;
 pub mod geometry;
 pub mod layout;
+
+#[cfg(test)]
+mod tests;
