@@ -44,10 +44,10 @@ wide-at [] i d w h = absurd (omega arith)
 wide-at (c ∷ cs) zero d w h = w .0
 wide-at (c ∷ cs) (suc i) d w h = wide-at cs i d (w .1) (le-of-suc-le-suc h)
 
-abbrev flat : List (List ℕ) → List ℕ
+abbrev pub flat : List (List ℕ) → List ℕ
 flat cs = joined (λ c. c) cs
 
-length-flat : (cs : List (List ℕ)) → Wide cs → length (flat cs) ≡ 32 * length cs
+pub length-flat : (cs : List (List ℕ)) → Wide cs → length (flat cs) ≡ 32 * length cs
 length-flat [] w = refl
 length-flat (c ∷ cs) w = omega (arith, length-append c (flat cs), w .0, length-flat cs (w .1))
 
@@ -56,7 +56,7 @@ take-past : (a b : List ℕ) (n : ℕ) → take (length a + n) (a ++ b) ≡ a ++
 take-past [] b n = let e : 0 + n ≡ n = omega arith in ap (λ m. take m b) e
 take-past (x ∷ a) b n = let e : suc (length a) + n ≡ suc (length a + n) = omega arith in ap (λ m. take m (x ∷ (a ++ b))) e ∙ ap (λ l. x ∷ l) (take-past a b n)
 
-drop-past : (a b : List ℕ) (n : ℕ) → drop (length a + n) (a ++ b) ≡ drop n b
+pub drop-past : (a b : List ℕ) (n : ℕ) → drop (length a + n) (a ++ b) ≡ drop n b
 drop-past [] b n = let e : 0 + n ≡ n = omega arith in ap (λ m. drop m b) e
 drop-past (x ∷ a) b n = let e : suc (length a) + n ≡ suc (length a + n) = omega arith in ap (λ m. drop m (x ∷ (a ++ b))) e ∙ drop-past a b n
 
@@ -90,10 +90,10 @@ unfolding pack
 length-pack cs = length-map-counting _ 0 (up (length cs))
 
 -- the cells of block j
-abbrev sixteen : List (List ℕ) → ℕ → List (List ℕ)
+abbrev pub sixteen : List (List ℕ) → ℕ → List (List ℕ)
 sixteen cs j = take 16 (drop (16 * j) cs)
 
-getD-pack : (cs : List (List ℕ)) (j : ℕ) (e : List ℕ) → j < up (length cs) → getD (pack cs) j e ≡ side-by-side (sixteen cs j)
+pub getD-pack : (cs : List (List ℕ)) (j : ℕ) (e : List ℕ) → j < up (length cs) → getD (pack cs) j e ≡ side-by-side (sixteen cs j)
 unfolding pack
 getD-pack cs j e h = getD-map-counting (λ i. side-by-side (sixteen cs i)) 0 (up (length cs)) j j e h (omega arith)
 

@@ -79,12 +79,12 @@ module _ (before : List (List ℕ)) (at : ℕ) (cells : List (List ℕ)) (room :
       ap (λ l. getD l k d) laid ∙ getD-append-right (take at before) (x ++ drop (at + w) before) at k d front (omega arith)
       ∙ getD-append-right x (drop (at + w) before) w (k - at) d blocks (omega arith) ∙ getD-drop (at + w) before (k - at - w) d ∙ ap (λ n. getD before n d) back
 
+pub wide-images : (image : List ℕ → List ℕ) → ((block : List ℕ) → length (image block) ≡ 32) → (blocks : List (List ℕ)) → Wide (map image blocks)
+wide-images image wide [] = tt
+wide-images image wide (b ∷ blocks) = (wide b, wide-images image wide blocks)
+
 -- the same, where the cells are images of blocks
 module _ (image : List ℕ → List ℕ) (wide : (block : List ℕ) → length (image block) ≡ 32) (before below : List (List ℕ)) (at : ℕ) (room : at + up (length below) ≤ length before) where
-  wide-images : (blocks : List (List ℕ)) → Wide (map image blocks)
-  wide-images [] = tt
-  wide-images (b ∷ blocks) = (wide b, wide-images blocks)
-
   fits : at + up (length (map image below)) ≤ length before
   fits = omega (arith, length-map below image)
 
@@ -96,7 +96,7 @@ module _ (image : List ℕ → List ℕ) (wide : (block : List ℕ) → length (
   images-more j after next place cell h laid is read put =
       let inside : j < length (map image below) = omega (arith, length-map below image) in
       put ∙ (λ k. set after (is k .0) (put-cell (getD after (is k .0) []) (is k .1) cell))
-      ∙ laid-more before at (map image below) fits j after cell [] (wide-images below) inside laid (read ∙ sym (getD-map image below j [] cell h))
+      ∙ laid-more before at (map image below) fits j after cell [] (wide-images image wide below) inside laid (read ∙ sym (getD-map image below j [] cell h))
 
   pub images-all : (j : ℕ) (after : List (List ℕ)) → length below ≤ j → Laid before at (map image below) j after → after ≡ take at before ++ (pack (map image below) ++ drop (at + up (length below)) before)
   images-all j after h laid =

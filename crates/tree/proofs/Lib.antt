@@ -2,3 +2,4 @@ pub mod Numbers
 pub mod Cells
 pub mod Levels
 pub mod Whole
+pub mod Paths

@@ -7,6 +7,7 @@ ghost use Rattle.std.specs.Of.Vec.{vec-items};
 ghost use Rattle.std.specs.Vec.{made};
 ghost use Rattle.tree.specs.Geometry.{up, total};
 ghost use Rattle.tree.specs.Layout.{zero-block, pack, put-cell, tree-of, root-of};
+ghost use Rattle.tree.specs.Paths.{Lead-up};
 use crate::contents::Contents;
 use crate::contents::zero_blocks;
 use crate::geometry::Geometry;
@@ -70,9 +71,11 @@ pub struct Tree {
 }
 
 impl Tree {
-    // The tree over the contents. It takes one image of each data block and of each tree block.
+    // The tree over the contents, in which the places of each data block lead up to the root. It takes one image of each data block
+    // and of each tree block.
     pub fn over<H: Hash>(heap: Global, hash: &H, contents: &Contents) -> Result<Tree, AllocError>
-        ensures { λ r. ⌜ made r (λ t. (vec-items (t .blocks) ≡ tree-of (H·Hash .image (now (hash .entry))) (vec-items (now (contents .entry) .blocks))) × (t .root ≡ root-of (H·Hash .image (now (hash .entry))) (vec-items (now (contents .entry) .blocks)))) ⌝ }
+        ensures layout { λ r. ⌜ made r (λ t. (vec-items (t .blocks) ≡ tree-of (H·Hash .image (now (hash .entry))) (vec-items (now (contents .entry) .blocks))) × (t .root ≡ root-of (H·Hash .image (now (hash .entry))) (vec-items (now (contents .entry) .blocks)))) ⌝ }
+        ensures leads { λ r. ⌜ made r (λ t. Lead-up (H·Hash .image (now (hash .entry))) (vec-items (now (contents .entry) .blocks)) (vec-items (t .blocks)) (t .root)) ⌝ }
     {
         let geometry = contents.geometry();
         let below = contents.blocks();
