@@ -25,9 +25,9 @@ word-none xs i h = ap word (drop-all i xs h)
 
 -- what `u64::from_le_bytes` gives is the word of its bytes
 pub word-of-eight
-  : (xs : List ℕ)
-  → length xs ≡ 8
-  → getD xs 0 0 + getD xs 1 0 * 256 + getD xs 2 0 * 65536 + getD xs 3 0 * 16777216 + getD xs 4 0 * 4294967296 + getD xs 5 0 * 1099511627776 + getD xs 6 0 * 281474976710656 + getD xs 7 0 * 72057594037927936
+    : (xs : List ℕ)
+    → length xs ≡ 8
+    → getD xs 0 0 + getD xs 1 0 * 256 + getD xs 2 0 * 65536 + getD xs 3 0 * 16777216 + getD xs 4 0 * 4294967296 + getD xs 5 0 * 1099511627776 + getD xs 6 0 * 281474976710656 + getD xs 7 0 * 72057594037927936
     ≡ word xs
 word-of-eight xs h =
     omega (
@@ -45,32 +45,32 @@ word-of-eight xs h =
 
 -- what `u64::to_le_bytes` gives are the eight lowest bytes
 pub eight-bytes
-  : (x : ℕ)
-  → (x % 256) ∷ (x / 256 % 256) ∷ (x / 65536 % 256) ∷ (x / 16777216 % 256) ∷ (x / 4294967296 % 256) ∷ (x / 1099511627776 % 256) ∷ (x / 281474976710656 % 256) ∷ (x / 72057594037927936 % 256) ∷ []
+    : (x : ℕ)
+    → (x % 256) ∷ (x / 256 % 256) ∷ (x / 65536 % 256) ∷ (x / 16777216 % 256) ∷ (x / 4294967296 % 256) ∷ (x / 1099511627776 % 256) ∷ (x / 281474976710656 % 256) ∷ (x / 72057594037927936 % 256) ∷ []
     ≡ bytes 8 x
 unfolding bytes
 eight-bytes x = simp div-div-eq-div-mul
 
 -- eight zeros with `rest` written over the n at their front, and t over the last of them
 pub padded
-  : (rest : List ℕ) (n t : ℕ)
-  → n ≡ length rest
-  → length rest < 8
-  → set (rest ++ drop n (replicate 8 0)) 7 t ≡ rest ++ replicate (7 - length rest) 0 ++ t ∷ []
+    : (rest : List ℕ) (n t : ℕ)
+    → n ≡ length rest
+    → length rest < 8
+    → set (rest ++ drop n (replicate 8 0)) 7 t ≡ rest ++ replicate (7 - length rest) 0 ++ t ∷ []
 padded rest n t e h =
     let zeros : List ℕ = replicate (7 - length rest) 0 in
     let one-more : 8 - n ≡ 7 - length rest + 1 = omega arith in
     let left : drop n (replicate 8 0) ≡ zeros ++ 0 ∷ [] =
-      drop-replicate n 8 0 ∙ ap (λ k. replicate k 0) one-more ∙ sym (replicate-more (7 - length rest) 0) in
+    drop-replicate n 8 0 ∙ ap (λ k. replicate k 0) one-more ∙ sym (replicate-more (7 - length rest) 0) in
     let long : length (rest ++ zeros) ≡ 7 = simp (length-append, length-replicate) (omega arith) in
     ap (λ z. set (rest ++ z) 7 t) left ∙ ap (λ z. set z 7 t) (sym (append-assoc rest zeros (0 ∷ []))) ∙ set-at (rest ++ zeros) 0 [] t 7 long
 
 -- the two words of a key
 pub halves
-  : (key : List ℕ) (chunks : List (List ℕ))
-  → length key ≡ 16
-  → chunks ≡ chunked 8 (length key / 8) key
-  → (word (getD chunks 0 []) ≡ k0 key) × (word (getD chunks 1 []) ≡ k1 key)
+    : (key : List ℕ) (chunks : List (List ℕ))
+    → length key ≡ 16
+    → chunks ≡ chunked 8 (length key / 8) key
+    → (word (getD chunks 0 []) ≡ k0 key) × (word (getD chunks 1 []) ≡ k1 key)
 unfolding k0 k1
 halves key chunks h e =
     let two : chunks ≡ take 8 key ∷ take 8 (drop 8 key) ∷ [] = e ∙ ap (λ n. chunked 8 (n / 8) key) h in
@@ -78,9 +78,9 @@ halves key chunks h e =
 
 -- one more element of a list goes into a fold over what a function makes of each
 pub folded-map-more
-  : {X Y Z : Type 0} (f : Z → Y → Z) (g : X → Y) (a : Z) (xs : List X) (i : ℕ) (d : X)
-  → i < length xs
-  → folded f a (map g (take (i + 1) xs)) ≡ f (folded f a (map g (take i xs))) (g (getD xs i d))
+    : {X Y Z : Type 0} (f : Z → Y → Z) (g : X → Y) (a : Z) (xs : List X) (i : ℕ) (d : X)
+    → i < length xs
+    → folded f a (map g (take (i + 1) xs)) ≡ f (folded f a (map g (take i xs))) (g (getD xs i d))
 folded-map-more f g a xs i d h =
     ap (folded f a) (map-more g xs i d h) ∙ folded-push f a (map g (take i xs)) (g (getD xs i d))
 
@@ -111,8 +111,8 @@ bytes-cell k n x h =
     record {
       long = simp (length-append, length-replicate) (omega arith);
       bytes = λ i. ⊎-elim
-        (λ below. rw (getD-append-left (bytes k x) (replicate n 0) 0 i (omega arith)) (bytes-lt k x i))
-        (λ past. omega (arith, zeros-past (bytes k x) n i (omega arith)))
-        (order i k);
+          (λ below. rw (getD-append-left (bytes k x) (replicate n 0) 0 i (omega arith)) (bytes-lt k x i))
+          (λ past. omega (arith, zeros-past (bytes k x) n i (omega arith)))
+          (order i k);
       zero-tail = λ i past. zeros-past (bytes k x) n i (omega arith);
     }
