@@ -1,2 +1,3 @@
-pub mod Hex
 pub mod First
+pub mod Hex
+pub mod Sip

@@ -1,11 +1,13 @@
 // The vectors of SipHash-2-4: the length of the message, and the hash in hexadecimal.
+ghost use mathlib.Core.List.{List};
 ghost use mathlib.Core.Path.{_≡_};
-ghost use Prim.Native.Nat.{_+_, _<_, _≤_};
-ghost use Rattle.digest.specs.SipHash.{bytes, siphash-2-4};
+ghost use Prim.Native.Nat.{ℕ};
 ghost use Rattle.std.specs.Iters.{counting};
 ghost use Rattle.std.specs.Of.Vec.{vec-items};
+ghost use Rattle.std.specs.Options.{Cases as BySome};
 ghost use Rattle.std.specs.Orderings.{Decides};
 ghost use Rattle.std.specs.Vec.{made};
+ghost use Rattle.vectors.specs.Sip.{Judged, Says, expected};
 use crate::hex;
 use crate::tally::Problem;
 use crate::tally::Tally;
@@ -30,7 +32,9 @@ fn message(heap: Global, length: u8) -> Result<Vec<u8>, AllocError>
 }
 
 // A line such as `1 fd67dc93c539f874`.
-fn read(heap: Global, line: &str) -> Result<Option<Vector>, AllocError> {
+fn read(heap: Global, line: &str) -> Result<Option<Vector>, AllocError>
+    ensures { λ r. ⌜ made r (λ o. BySome o ((n : ℕ) (hash : List ℕ) → Says (now (line .entry)) n hash → ⊥) (λ v. Says (now (line .entry)) (v .length) (vec-items (v .hash)))) ⌝ }
+{
     let Some((length, hash)) = line.split_once(' ') else {
         return Ok(None);
     };
@@ -45,7 +49,7 @@ fn read(heap: Global, line: &str) -> Result<Option<Vector>, AllocError> {
 
 impl Vector {
     fn agrees(&self, heap: Global) -> Result<bool, AllocError>
-        ensures { λ r. ⌜ made r (λ b. Decides b (vec-items (now (self .entry) .hash) ≡ bytes 8 (siphash-2-4 (counting 0 16) (counting 0 (now (self .entry) .length))))) ⌝ }
+        ensures { λ r. ⌜ made r (λ b. Decides b (vec-items (now (self .entry) .hash) ≡ expected (now (self .entry) .length))) ⌝ }
     {
         let message = message(heap, self.length)?;
         let hash = siphash_2_4(&KEY, message.as_slice()).to_le_bytes();
@@ -53,7 +57,9 @@ impl Vector {
     }
 }
 
-fn problem_of(heap: Global, line: &str) -> Result<Option<Problem>, AllocError> {
+fn problem_of(heap: Global, line: &str) -> Result<Option<Problem>, AllocError>
+    ensures { λ r. ⌜ made r (λ o. Judged (now (line .entry)) o) ⌝ }
+{
     match read(heap, line)? {
         None => Ok(Some(Problem::Unreadable)),
         Some(vector) => {
