@@ -1,1 +1,2 @@
 pub mod Cell
+pub mod SipHash

@@ -4,12 +4,7 @@ ghost use mathlib.Core.Path.{_≡_};
 ghost use Prim.Native.Nat.{ℕ, _≤_};
 ghost use Rattle.digest.specs.Cell.{IsCell};
 
-// A block is 512 bytes on every device.
-pub const BLOCK: usize = 512;
-
-// A cell, the image of one block, is 32 bytes in every tree.
-pub const CELL: usize = 32;
-
+// A block is 512 bytes on every device, and its image, a cell, 32 bytes in every tree.
 pub trait Hash {
     // The register's number for this hash, 1 to 255.
     const KIND: u8;
