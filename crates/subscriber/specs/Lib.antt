@@ -1,0 +1,3 @@
+pub mod Scan
+pub mod Identity
+pub mod Block
