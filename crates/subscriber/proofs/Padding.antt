@@ -6,7 +6,7 @@ use Prim.Native.Nat.{ℕ, zero, suc, _+_, _-_, _≤_, _<_}
 use native.Mathlib.Omega.{arith}
 use lib.Dec.{eqb, leb}
 use lib.ListN.{length, getD, take, drop, replicate}
-use Rattle.std.proofs.shelf.Lists.{at-drop-more, drop-at}
+use Rattle.std.proofs.shelf.Lists.{at-drop-more, drop-at, length-append, length-replicate}
 use Rattle.std.proofs.shelf.Tests.{eq-eqb, ne-eqb, le-leb, lt-leb, and-left, and-right, and-from, and-parts, eqb-true}
 use Rattle.std.specs.Text.{asciiDigit}
 use Rattle.std.specs.shelf.Lists.{leading}
@@ -34,19 +34,23 @@ zeros-from (x ∷ xs) e =
     let rest = zeros-from xs (parts .1) in
     cc
 
--- `n` counts the digits at the front
-module _ (bs : List ℕ) (n : ℕ) (e : n ≡ digit-run bs) where
+-- `n` counts the digits at the front of 20 bytes
+module _ (bs : List ℕ) (n : ℕ) (long : length bs ≡ 20) (e : n ≡ digit-run bs) where
   pub padded-yes : 6 ≤ n → all-zero (drop n bs) ≡ true → is-padded bs ≡ true
   unfolding is-padded
-  padded-yes h z = rw (← e) (and-from _ _ (le-leb 6 n h) z)
+  padded-yes h z = rw (← e) (and-from _ _ (eq-eqb _ 20 long) (and-from _ _ (le-leb 6 n h) z))
 
   pub padded-short : n < 6 → is-padded bs ≡ false
   unfolding is-padded
-  padded-short h = rw (← e) (and-left _ _ (lt-leb 6 n h))
+  padded-short h = rw (← e) (and-right _ _ (and-left _ _ (lt-leb 6 n h)))
 
   pub padded-tail : all-zero (drop n bs) ≡ false → is-padded bs ≡ false
   unfolding is-padded
-  padded-tail z = rw (← e) (and-right _ _ z)
+  padded-tail z = rw (← e) (and-right (eqb (length bs) 20) (leb 6 n && all-zero (drop n bs)) (and-right (leb 6 n) _ z))
+
+pub padded-length : (bs : List ℕ) → is-padded bs ≡ true → length bs ≡ 20
+unfolding is-padded
+padded-length bs h = eqb-true _ 20 (and-parts _ _ h .0)
 
 run-cons : (c : ℕ) (cs rest : List ℕ) (b : Bool) → asciiDigit c ≡ b → digit-run (c ∷ cs) ≡ suc (length cs) → (digit-run cs ≡ length cs → digit-run (cs ++ rest) ≡ length cs) → digit-run (c ∷ (cs ++ rest)) ≡ suc (length cs)
 run-cons c cs rest true d e on = rw d (omega (arith, on (omega (arith, rw d at e))))
@@ -72,7 +76,8 @@ padded-is text high all =
     let zeros = replicate (20 - length text) 0 in
     let long : digit-run (text ++ zeros) ≡ length text = run-append text zeros all (run-zeros (20 - length text)) in
     let tail : all-zero (drop (length text) (text ++ zeros)) ≡ true = ap all-zero (drop-at text zeros (length text) refl) ∙ all-zero-replicate (20 - length text) in
-    rw long (and-true _ _ tail ∙ sym (and-true _ _ (le-leb _ 20 high)) ∙ sym (and-true _ _ (eq-eqb _ _ all)))
+    let wide : length (text ++ zeros) ≡ 20 = simp (length-append, length-replicate) (omega arith) in
+    rw long (and-on _ _ (eq-eqb _ 20 wide) ∙ and-true _ _ tail ∙ sym (and-true _ _ (le-leb _ 20 high)) ∙ sym (and-true _ _ (eq-eqb _ _ all)))
 
 pub identity-yes : (text : List ℕ) → 6 ≤ length text → length text ≤ 20 → digit-run text ≡ length text → is-identity text ≡ true
 unfolding is-identity

@@ -12,9 +12,9 @@ use Rattle.subscriber.specs.Scan.{all-zero}
 abbrev pub digit-run : List ℕ → ℕ
 digit-run bs = leading asciiDigit bs
 
--- at least six ASCII digits, and zeros after the last
+-- 20 bytes: at least six ASCII digits, and zeros after the last
 unfoldable pub is-padded : List ℕ → Bool
-is-padded bs = leb 6 (digit-run bs) && all-zero (drop (digit-run bs) bs)
+is-padded bs = eqb (length bs) 20 && (leb 6 (digit-run bs) && all-zero (drop (digit-run bs) bs))
 
 -- an identity as it is written: 6 to 20 bytes, and each a digit
 unfoldable pub is-identity : List ℕ → Bool

@@ -1,4 +1,5 @@
 // One SIM.
+ghost use Prim.Native.Nat.{_<_, _^_};
 use crate::identity::Identity;
 use crate::identity::IdentityDebug;
 use crate::identity::IdentityPartialEq;
@@ -12,4 +13,5 @@ pub struct Sim {
     pub identity: Identity,
     pub key: u16,
     pub sequence: Sequence,
+    ghost narrow: { key < 2 ^ 16 },
 }

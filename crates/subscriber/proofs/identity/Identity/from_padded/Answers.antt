@@ -16,8 +16,8 @@ tested ds n b long e = sym (e ∙ ap all-zero (between-to-end ds n 20 (omega ari
 
 pub returns-then-n-lt6 : need.returns-then-n-lt6
 returns-then-n-lt6 c =
-    let short = padded-short (c .args .digits) (c .run-n .result) (c .run-n .ensures .value) in
-    let tail = padded-tail (c .args .digits) (c .run-n .result) (c .run-n .ensures .value) in
+    let short = padded-short (c .args .digits) (c .run-n .result) (search needs) (c .run-n .ensures .value) in
+    let tail = padded-tail (c .args .digits) (c .run-n .result) (search needs) (c .run-n .ensures .value) in
     elim (c .then-n-lt6 .came) [
       | then-n-lt6·by·then-n-lt6 w ↦ short (w .if-n-lt6 .taken)
       | then-n-lt6·by·else-n-lt6·then-not-is-zero w ↦ tail (tested (c .args .digits) (c .run-n .result) _ (search needs) (w .if-not-is-zero .ensures tt))
@@ -26,4 +26,4 @@ returns-then-n-lt6 c =
 pub ghost-result : need.ghost-result
 ghost-result c =
     let zeros = tested (c .args .digits) (c .run-n .result) _ (search needs) (c .if-not-is-zero .ensures tt) in
-    (padded-yes (c .args .digits) (c .run-n .result) (c .run-n .ensures .value) (c .if-n-lt6 .left) zeros, tt)
+    (padded-yes (c .args .digits) (c .run-n .result) (search needs) (c .run-n .ensures .value) (c .if-n-lt6 .left) zeros, tt)
