@@ -39,7 +39,7 @@ module _ (s : Sim) (block : List ℕ) (e : sim-block s ≡ block) where
   block-tail : drop 20 block ≡ (little-endian 4 (s .key) ++ little-endian 8 (s .sequence .value)) ++ replicate 480 0
   unfolding sim-block sim-head
   block-tail =
-      rw (← e, append-assoc) (drop-at (s .identity .digits) _ 20 (padded-length _ (s .identity .ok)))
+      rw (← e, append-assoc (s .identity .digits) (little-endian 4 (s .key) ++ little-endian 8 (s .sequence .value)) (replicate 480 0)) (drop-at (s .identity .digits) _ 20 (padded-length _ (s .identity .ok)))
 
   at : (i : ℕ) → getD block (20 + i) 0 ≡ getD ((little-endian 4 (s .key) ++ little-endian 8 (s .sequence .value)) ++ replicate 480 0) i 0
   at i = sym (getD-drop 20 block i 0) ∙ ap (λ xs. getD xs i 0) block-tail

@@ -3,7 +3,7 @@ use mathlib.Core.Bool.{Bool, _&&_}
 use mathlib.Core.List.{List, _++_}
 use Prim.Native.Nat.{ℕ, _-_}
 use lib.Dec.{leb, eqb}
-use lib.ListN.{length, drop, replicate}
+use lib.ListN.{length, take, drop, replicate}
 use Rattle.std.specs.Text.{asciiDigit}
 use Rattle.std.specs.shelf.Lists.{leading}
 use Rattle.subscriber.specs.Scan.{all-zero}
@@ -23,3 +23,7 @@ is-identity text = (leb 6 (length text) && leb (length text) 20) && eqb (digit-r
 -- a text with zeros after it, to 20 bytes in all
 unfoldable pub padded : List ℕ → List ℕ
 padded text = text ++ replicate (20 - length text) 0
+
+-- the digits at the front alone
+unfoldable pub unpadded : List ℕ → List ℕ
+unpadded bs = take (digit-run bs) bs

@@ -29,7 +29,7 @@ part-bytes-end-3 c = two-long (c .copy-from-slice .last .self) (c .copy-from-sli
 
 pub returns : need.returns
 unfolding sim-head
-returns c = 
+returns c =
     let a = c .copy-from-slice .ensures .after ∙ c .padded-digits .ensures in
     let b = c .copy-from-slice-2 .ensures .after ∙ c .to-le-bytes .ensures ∙ little-4 _ ∙ ap (little-endian 4) (c .from .ensures) in
     let d = c .copy-from-slice-3 .ensures .after ∙ c .to-le-bytes-2 .ensures ∙ little-8 _ ∙ ap (little-endian 8) (c .value .ensures) in
