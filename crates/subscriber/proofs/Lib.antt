@@ -1,3 +1,4 @@
 pub mod Padding
 pub mod Bytes
 pub mod Blocks
+pub mod Cuts

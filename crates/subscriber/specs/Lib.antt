@@ -1,3 +1,4 @@
 pub mod Scan
 pub mod Identity
 pub mod Block
+pub mod Text

@@ -4,3 +4,4 @@ pub mod identity;
 mod scan;
 pub mod sequence;
 pub mod sim;
+mod text;
