@@ -75,3 +75,21 @@ word-parts line s front back n m e f g h k =
     let start : s ≡ drop (leading blank line) line = f ∙ ap (λ i. drop i line) e in
     let cut = subst (λ u. Cutting u (words line)) (sym start) (words-cut line) in
     (h ∙ ap (λ i. take i s) g ∙ cut .0, ap words (k ∙ ap (λ i. drop i s) g) ∙ cut .1)
+
+some-by : (c : ℕ) (b : Bool) (ws : List (List ℕ)) → 0 < length (getD (cond b (onto-first c ws) ((c ∷ []) ∷ ws)) 0 [])
+some-by c true [] = omega arith
+some-by c true (w ∷ ws) = omega arith
+some-by c false ws = omega arith
+
+none-by : (c : ℕ) (cs : List ℕ) (b : Bool) → (length (getD (words cs) 0 []) ≡ 0 → words cs ≡ []) → length (getD (cond b (words cs) (cond (begins cs) (onto-first c (words cs)) ((c ∷ []) ∷ words cs))) 0 []) ≡ 0 → cond b (words cs) (cond (begins cs) (onto-first c (words cs)) ((c ∷ []) ∷ words cs)) ≡ []
+none-by c cs true on e = on e
+none-by c cs false on e = absurd (omega (arith, e, some-by c (begins cs) (words cs)))
+
+-- no word is empty
+pub words-none : (t : List ℕ) → length (getD (words t) 0 []) ≡ 0 → words t ≡ []
+words-none [] e = refl
+words-none (c ∷ cs) e = none-by c cs (blank c) (words-none cs) e
+
+pub words-more : (ws : List (List ℕ)) → 0 < length (getD ws 0 []) → 1 + length (drop 1 ws) ≡ length ws
+words-more [] h = absurd (omega arith)
+words-more (w ∷ ws) h = omega arith

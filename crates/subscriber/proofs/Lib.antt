@@ -2,3 +2,4 @@ pub mod Padding
 pub mod Bytes
 pub mod Blocks
 pub mod Cuts
+pub mod Numbers

@@ -2,3 +2,4 @@ pub mod Scan
 pub mod Identity
 pub mod Block
 pub mod Text
+pub mod Number

@@ -1,7 +1,7 @@
 // Lines and words of a text.
 ghost use mathlib.Core.List.{[], _∷_};
 ghost use mathlib.Core.Path.{_≡_};
-ghost use Prim.Native.Nat.{_<_, _≤_};
+ghost use Prim.Native.Nat.{_+_, _<_, _≤_};
 ghost use lib.ListN.{length, getD, drop};
 ghost use Rattle.subscriber.specs.Text.{lines, words};
 use crate::scan::Class;
@@ -35,8 +35,25 @@ pub fn cut_line(text: &[u8]) -> Cut<'_>
 pub fn cut_word(line: &[u8]) -> Cut<'_>
     ensures first { λ r. ⌜ now (r .piece) ≡ getD (words (now (line .entry))) 0 [] ⌝ }
     ensures others { λ r. ⌜ words (now (r .rest)) ≡ drop 1 (words (now (line .entry))) ⌝ }
+    ensures shorter { λ r. ⌜ length (now (r .piece)) + length (now (r .rest)) ≤ length (now (line .entry)) ⌝ }
 {
     let (_, line) = line.split_at(run(line, Class::Blank));
     let (piece, rest) = line.split_at(run(line, Class::Solid));
     Cut { piece, rest }
+}
+
+// How many words the line has.
+pub fn word_count(line: &[u8]) -> usize
+    ensures { λ r. ⌜ r ≡ length (words (now (line .entry))) ⌝ }
+{
+    let mut n = 0;
+    let mut rest = line;
+    loop {
+        let cut = cut_word(rest);
+        if cut.piece.is_empty() {
+            return n;
+        }
+        n += 1;
+        rest = cut.rest;
+    }
 }

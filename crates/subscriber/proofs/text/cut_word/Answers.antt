@@ -1,9 +1,5 @@
-use mathlib.Core.Path.{_≡_, sym, ap, subst, _∙_}
-use mathlib.Core.List.{List}
-use Prim.Native.Nat.{ℕ}
-use lib.ListN.{take, drop}
-use Rattle.subscriber.specs.Text.{words}
-use Rattle.subscriber.proofs.Cuts.{words-cut, word-parts}
+use native.Mathlib.Omega.{arith}
+use Rattle.subscriber.proofs.Cuts.{word-parts}
 use Rattle.subscriber.proofs.text.cut_word.Needs as need
 
 pub returns : need.returns
@@ -11,4 +7,4 @@ returns c =
     let one = c .split-at .ensures in
     let two = c .split-at-2 .ensures in
     let told = word-parts _ _ _ _ _ _ (c .run .ensures .value) (one .back) (c .run-2 .ensures .value) (two .front) (two .back) in
-    record { first = told .0; others = told .1 }
+    record { first = told .0; others = told .1; shorter = omega (arith, one .back-len, two .back-len, two .front-len) }
