@@ -1,0 +1,5 @@
+pub mod Padding
+pub mod Bytes
+pub mod Blocks
+pub mod Cuts
+pub mod Numbers

@@ -1,0 +1,5 @@
+pub mod Scan
+pub mod Identity
+pub mod Block
+pub mod Text
+pub mod Number

@@ -1,0 +1,51 @@
+// Why a sheet is refused.
+
+// A line that stands once, before the first SIM.
+#[derive(Clone, Copy, PartialEq, Eq, Debug)]
+pub enum Header {
+    Tray,
+    Hash,
+    Blocks,
+}
+
+// The word that a line begins with.
+#[derive(Clone, Copy, PartialEq, Eq, Debug)]
+pub enum Keyword {
+    Tray,
+    Hash,
+    Blocks,
+    Sim,
+}
+
+// What a number of a sheet stands for.
+#[derive(Clone, Copy, PartialEq, Eq, Debug)]
+pub enum Number {
+    Tray,
+    Blocks,
+    KeyIndex,
+    Sequence,
+}
+
+#[derive(Clone, Copy, PartialEq, Eq, Debug)]
+pub enum Cause {
+    // The first word is none of `tray`, `hash`, `blocks` and `sim`.
+    UnknownWord,
+    // Too few or too many words stand after this one.
+    WordCount(Keyword),
+    // Something else than decimal digits.
+    NotANumber(Number),
+    OutOfRange(Number),
+    // Not 6 to 20 bytes long.
+    IdentityLength,
+    IdentityDigit,
+    // The word after `hash` is not `siphash`.
+    UnknownHash,
+    // Not 32 bytes long.
+    KeyLength,
+    KeyDigit,
+    Missing(Header),
+    Repeated(Header),
+    // A header stands after the first SIM.
+    Late(Header),
+    TooManySims,
+}

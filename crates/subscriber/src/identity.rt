@@ -1,0 +1,71 @@
+// The identity of a SIM: an IMSI or an ICCID.
+ghost use mathlib.Core.Bool.{true, false};
+ghost use mathlib.Core.Path.{_≡_};
+ghost use Prim.Native.Nat.{ℕ, _≤_, _<_};
+ghost use Rattle.std.specs.Options.{Cases as BySome};
+ghost use Rattle.subscriber.specs.Identity.{is-padded, is-identity, padded, unpadded};
+ghost use Rattle.std.specs.declared.option.Option.the-variants.{Some};
+use crate::scan::Class;
+use crate::scan::is_zero;
+use crate::scan::run;
+use std::fmt;
+
+// 6 to 20 decimal digits, held as they stand in a block: in ASCII, zeros after the last.
+#[derive(Clone, Copy, PartialEq, Eq, Debug)]
+pub struct Identity {
+    digits: [u8; 20],
+    ghost ok: { is-padded digits ≡ true },
+}
+
+impl Identity {
+    // The identity whose digits are `text`, or `None` where that is not 6 to 20 ASCII digits.
+    pub fn new(text: &[u8]) -> Option<Identity>
+        ensures { λ r. ⌜ BySome r (is-identity (now (text .entry)) ≡ false) (λ i. (is-identity (now (text .entry)) ≡ true) × (i .digits ≡ padded (now (text .entry)))) ⌝ }
+    {
+        let n = text.len();
+        if n > 20 || run(text, Class::Digit) != n {
+            return None;
+        }
+        let mut digits = [0u8; 20];
+        digits[0..n].copy_from_slice(text);
+        Self::from_padded(digits)
+    }
+
+    // The identity that these 20 bytes of a block hold, or `None` where they hold none.
+    pub fn from_padded(digits: [u8; 20]) -> Option<Identity>
+        ensures { λ r. ⌜ BySome r (is-padded digits ≡ false) (λ i. (is-padded digits ≡ true) × (i .digits ≡ digits)) ⌝ }
+    {
+        let n = run(&digits, Class::Digit);
+        if n < 6 || !is_zero(&digits[n..]) {
+            return None;
+        }
+        Some(Identity { digits })
+    }
+
+    // The digits alone, 6 to 20 of them.
+    pub fn digits(&self) -> &[u8]
+        ensures { λ r. ⌜ now r ≡ unpadded (now (self .entry) .digits) ⌝ }
+    {
+        let n = run(&self.digits, Class::Digit);
+        &self.digits[0..n]
+    }
+
+    // The 20 bytes of a block: the digits, and zeros after the last.
+    pub fn padded_digits(&self) -> [u8; 20]
+        ensures { λ r. ⌜ r ≡ now (self .entry) .digits ⌝ }
+    {
+        self.digits
+    }
+}
+
+// Its digits.
+pub impl fmt::Display for Identity as IdentityDisplay {
+    ghost shown = { λ i. Some (unpadded (i .digits)) };
+
+    fn fmt<W: fmt::Write>(&self, f: &mut fmt::Formatter<W>) -> fmt::Result {
+        match std::str::from_utf8(self.digits()) {
+            Ok(digits) => f.pad(digits),
+            Err(_) => Err(fmt::Error),
+        }
+    }
+}

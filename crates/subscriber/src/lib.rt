@@ -1,0 +1,9 @@
+// The SIMs of a tray: one SIM as one 512-byte block and back, and the sheet that lists them.
+pub mod block;
+pub mod cause;
+pub mod identity;
+mod number;
+mod scan;
+pub mod sequence;
+pub mod sim;
+mod text;
