@@ -1,0 +1,9 @@
+// From a tray's sheet to the label of its box.
+mod failure;
+mod load;
+
+use std::error::AnyError;
+
+fn main(rt: LibcRuntime) -> Result<(), AnyError> {
+    Ok(())
+}
