@@ -1,5 +1,6 @@
 // From a tray's sheet to the label of its box.
 mod failure;
+mod lines;
 mod load;
 
 use std::error::AnyError;
