@@ -2,6 +2,7 @@
 mod failure;
 mod lines;
 mod load;
+mod report;
 
 use std::error::AnyError;
 
