@@ -3,3 +3,4 @@ pub mod Bytes
 pub mod Blocks
 pub mod Cuts
 pub mod Numbers
+pub mod Keys

@@ -3,3 +3,4 @@ pub mod Identity
 pub mod Block
 pub mod Text
 pub mod Number
+pub mod Items

@@ -1,7 +1,9 @@
 // The SIMs of a tray: one SIM as one 512-byte block and back, and the sheet that lists them.
 pub mod block;
 pub mod cause;
+mod hex;
 pub mod identity;
+mod item;
 mod number;
 mod scan;
 pub mod sequence;
