@@ -4,3 +4,4 @@ pub mod Blocks
 pub mod Cuts
 pub mod Numbers
 pub mod Keys
+pub mod Lines

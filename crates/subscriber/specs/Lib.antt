@@ -4,3 +4,6 @@ pub mod Block
 pub mod Text
 pub mod Number
 pub mod Items
+pub mod Plain
+pub mod Sheet
+pub mod Answer

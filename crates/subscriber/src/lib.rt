@@ -1,6 +1,7 @@
 // The SIMs of a tray: one SIM as one 512-byte block and back, and the sheet that lists them.
 pub mod block;
 pub mod cause;
+mod headers;
 mod hex;
 pub mod identity;
 mod item;
@@ -8,4 +9,6 @@ mod number;
 mod scan;
 pub mod sequence;
 pub mod sim;
+mod step;
 mod text;
+pub mod tray;
