@@ -5,3 +5,4 @@ pub mod Cuts
 pub mod Numbers
 pub mod Keys
 pub mod Lines
+pub mod Steps

@@ -7,12 +7,13 @@ use Rattle.std.specs.Options.{mapped}
 use Rattle.std.specs.declared.result.Result.{Result}
 use Rattle.std.specs.declared.result.Result.the-variants.{Ok, Err}
 use Rattle.subscriber.specs.declared.cause.Cause.{Cause}
+use Rattle.subscriber.specs.declared.headers.Heading.{Heading}
 use Rattle.subscriber.specs.declared.headers.Headers.{Headers}
 use Rattle.subscriber.specs.declared.headers.Fault.{Fault}
 use Rattle.subscriber.specs.declared.headers.Fault.the-variants as fault
 use Rattle.subscriber.specs.declared.sim.Sim.{Sim}
 use Rattle.subscriber.specs.Plain.{entry-of}
-use Rattle.subscriber.specs.Sheet.{Draft}
+use Rattle.subscriber.specs.Sheet.{Draft, Whole}
 
 abbrev pub draft-of : Headers → List Sim → Draft
 draft-of h ss = record {
@@ -21,6 +22,10 @@ draft-of h ss = record {
   blocks = mapped (λ b. b .value) (h .blocks);
   sims = map entry-of ss;
 }
+
+-- all of the headers, with these SIMs
+abbrev pub whole-with : List Sim → Heading → Whole
+whole-with ss h = record { tray = h .tray .value; hash = h .hash; blocks = h .blocks .value; sims = map entry-of ss }
 
 -- the draft after a step is the one that is asked for, or the cause is; want of memory may come at any time
 abbrev pub Stepped : Result Draft Cause → Result Headers Fault → List Sim → Type 0
