@@ -6,3 +6,4 @@ pub mod Numbers
 pub mod Keys
 pub mod Lines
 pub mod Steps
+pub mod Sheets

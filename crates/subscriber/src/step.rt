@@ -37,7 +37,7 @@ fn allow(header: Header, there: bool, sims: usize) -> Result<(), Cause>
 }
 
 // All of the headers, or the first that is missing.
-fn heading(headers: Headers) -> Result<Heading, Cause>
+pub fn heading(headers: Headers) -> Result<Heading, Cause>
     ensures { λ r. ⌜ ((ss : List Sim) → with-ok (whole-with ss) r ≡ whole (draft-of headers ss)) ⌝ }
 {
     let Some(tray) = headers.tray else {
