@@ -3,3 +3,7 @@ pub mod Identity
 pub mod Block
 pub mod Text
 pub mod Number
+pub mod Items
+pub mod Plain
+pub mod Sheet
+pub mod Answer

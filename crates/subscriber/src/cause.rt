@@ -1,4 +1,8 @@
 // Why a sheet is refused.
+ghost use mathlib.Core.Path.{_≡_};
+ghost use Rattle.subscriber.specs.declared.cause.SheetError.the-variants as error;
+use std::alloc::AllocError;
+use std::alloc::Refused;
 
 // A line that stands once, before the first SIM.
 #[derive(Clone, Copy, PartialEq, Eq, Debug)]
@@ -48,4 +52,28 @@ pub enum Cause {
     // A header stands after the first SIM.
     Late(Header),
     TooManySims,
+}
+
+// Why no sheet was read.
+#[derive(Clone, Copy, PartialEq, Eq, Debug)]
+pub enum SheetError {
+    // The line, counted from 1, and what is wrong there.
+    Bad { line: usize, cause: Cause },
+    NoMemory,
+}
+
+pub impl From<AllocError> for SheetError as SheetErrorFromAlloc {
+    ghost converts = { λ _ r. r ≡ error.NoMemory };
+
+    fn from(_error: AllocError) -> SheetError {
+        SheetError::NoMemory
+    }
+}
+
+pub impl<T: Drop> From<Refused<T>> for SheetError as SheetErrorFromRefused {
+    ghost converts = { λ _ r. r ≡ error.NoMemory };
+
+    fn from(_refused: Refused<T>) -> SheetError {
+        SheetError::NoMemory
+    }
 }

@@ -24,6 +24,13 @@ impl Sequence {
         Some(Sequence { value })
     }
 
+    pub(crate) fn of(value: u64) -> Sequence
+        requires { ⌜ value < 2 ^ 48 ⌝ }
+        ensures { λ r. ⌜ r .value ≡ value ⌝ }
+    {
+        Sequence { value }
+    }
+
     // The number itself.
     pub fn value(self) -> u64
         ensures { λ r. ⌜ r ≡ self .value ⌝ }

@@ -1,0 +1,17 @@
+-- What the code reads from a line, in plain numbers.
+use mathlib.Core.List.{List}
+use Prim.Native.Nat.{ℕ}
+use Rattle.subscriber.specs.Items.{Entry, Said, nothing, tray-is, hash-is, blocks-are, sim-is}
+use Rattle.subscriber.specs.declared.item.Item.{Item}
+use Rattle.subscriber.specs.declared.item.Item.the-variants as item
+use Rattle.subscriber.specs.declared.sim.Sim.{Sim}
+
+abbrev pub entry-of : Sim → Entry
+entry-of s = (s .identity .digits, s .key, s .sequence .value)
+
+abbrev pub plain : Item → Said
+plain item.Nothing = nothing
+plain (item.Tray t) = tray-is (t .value)
+plain (item.Hash h) = hash-is h
+plain (item.Blocks b) = blocks-are (b .value)
+plain (item.Sim s) = sim-is (entry-of s)

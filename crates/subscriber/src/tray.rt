@@ -1,0 +1,58 @@
+// The headers of a sheet.
+ghost use mathlib.Core.Path.{_≡_};
+ghost use Prim.Native.Nat.{_≤_};
+
+// The number of a tray, 1 to 4294967295.
+#[derive(Clone, Copy, PartialEq, Eq, Debug)]
+pub struct TrayNumber {
+    value: u32,
+    ghost low: { 1 ≤ value },
+}
+
+impl TrayNumber {
+    pub(crate) fn of(value: u32) -> TrayNumber
+        requires { ⌜ 1 ≤ value ⌝ }
+        ensures { λ r. ⌜ r .value ≡ value ⌝ }
+    {
+        TrayNumber { value }
+    }
+
+    // The number itself.
+    pub fn value(self) -> u32
+        ensures { λ r. ⌜ r ≡ self .value ⌝ }
+    {
+        self.value
+    }
+}
+
+// How many blocks a tray has, 1 to 4096.
+#[derive(Clone, Copy, PartialEq, Eq, Debug)]
+pub struct BlockCount {
+    value: u16,
+    ghost low: { 1 ≤ value },
+    ghost high: { value ≤ 4096 },
+}
+
+impl BlockCount {
+    pub(crate) fn of(value: u16) -> BlockCount
+        requires low { ⌜ 1 ≤ value ⌝ }
+        requires high { ⌜ value ≤ 4096 ⌝ }
+        ensures { λ r. ⌜ r .value ≡ value ⌝ }
+    {
+        BlockCount { value }
+    }
+
+    // The number itself.
+    pub fn value(self) -> u16
+        ensures { λ r. ⌜ r ≡ self .value ⌝ }
+    {
+        self.value
+    }
+}
+
+// The hash of a tray, with its key.
+#[derive(Clone, Copy, PartialEq, Eq, Debug)]
+pub enum HashChoice {
+    // SipHash-2-4.
+    SipHash { key: [u8; 16] },
+}
