@@ -1,0 +1,51 @@
+-- From the text of a sheet to the report of its label.
+use mathlib.Core.List.{List, map, _++_}
+use mathlib.Core.Path.{_≡_}
+use Prim.Native.Nat.{ℕ, _-_}
+use lib.ListN.{length, replicate}
+use Rattle.std.specs.Of.String.{string-bytes}
+use Rattle.std.specs.Of.Vec.{vec-items}
+use Rattle.std.specs.declared.alloc.Global.{Global}
+use Rattle.std.specs.declared.result.Result.{Result}
+use Rattle.std.specs.declared.result.Result.the-variants.{Ok, Err}
+use Rattle.std.specs.declared.string.String.{String}
+use Rattle.digest.specs.SipHash.{sip-cell}
+use Rattle.subscriber.specs.Answer.{plain-sheet}
+use Rattle.subscriber.specs.Block.{sim-block}
+use Rattle.subscriber.specs.Sheet.{sheet-of}
+use Rattle.subscriber.specs.declared.cause.SheetError.the-variants as error
+use Rattle.subscriber.specs.declared.sheet.Sheet.{Sheet}
+use Rattle.subscriber.specs.declared.sim.Sim.{Sim}
+use Rattle.subscriber.specs.declared.tray.HashChoice.{HashChoice}
+use Rattle.subscriber.specs.declared.tray.HashChoice.the-variants.{SipHash}
+use Rattle.tree.specs.Geometry.{levels, total}
+use Rattle.tree.specs.Layout.{zero-block, root-of}
+use Rattle.simbox.specs.Report.{head-line, sim-lines, tree-line, label-line}
+use Rattle.simbox.specs.declared.failure.Failure.{Failure}
+use Rattle.simbox.specs.declared.failure.Failure.the-variants as failure
+
+-- the hash that a sheet names: the image of a block under it, and its kind
+abbrev pub image-for : HashChoice → List ℕ → List ℕ
+image-for (SipHash key) = sip-cell key
+
+abbrev pub kind-for : HashChoice → ℕ
+kind-for (SipHash key) = 2
+
+-- the volume of a tray: SIM k in block k, and zeros in every block after the last SIM
+abbrev pub volume-of : List Sim → ℕ → List (List ℕ)
+volume-of sims blocks = map sim-block sims ++ replicate (blocks - length sims) zero-block
+
+-- the report of a tray
+unfoldable pub report-of : ℕ → HashChoice → ℕ → List Sim → List ℕ
+report-of tray hash blocks sims =
+    head-line tray (length sims) blocks
+    ++ (sim-lines 0 sims ++ (tree-line (levels blocks) (total blocks) ++ label-line (kind-for hash) (root-of (image-for hash) (volume-of sims blocks))))
+
+-- what is answered to the text of a sheet: the report of what it says, or the line that is refused and why; want of memory may come at any time
+abbrev pub Labelled : List ℕ → Result (String Global) Failure → Type 0
+Labelled text (Ok s) =
+    (sheet : Sheet) × (sheet-of text ≡ Ok (plain-sheet sheet)) × (string-bytes s ≡ report-of (sheet .tray .value) (sheet .hash) (sheet .blocks .value) (vec-items (sheet .sims)))
+Labelled text (Err (failure.Refused (error.Bad line cause))) = sheet-of text ≡ Err (line, cause)
+Labelled text (Err (failure.Refused error.NoMemory)) = Unit {0}
+Labelled text (Err failure.NoMemory) = Unit {0}
+Labelled text (Err (failure.Block n)) = ⊥
