@@ -43,7 +43,7 @@ initial key =
       v3 = bitXor (k1 key) 0x7465646279746573;
     }
 
--- one round
+-- one round, a line for each of its 14 steps
 unfoldable pub SipRound : State → State
 SipRound s =
     let v0 : ℕ = plus (s .v0) (s .v1) in

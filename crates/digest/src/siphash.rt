@@ -6,7 +6,7 @@ ghost use lib.ListN.{length, replicate};
 ghost use Rattle.digest.specs.SipHash.{SipRound, compress, finalize, initial, sip-cell, siphash-2-4, word};
 use crate::hash::Hash;
 
-// v0 to v3 of the definition.
+// v0 to v3 of the definition, passed by value so that they stay in registers.
 #[derive(Clone, Copy)]
 struct State {
     v0: u64,
@@ -31,6 +31,7 @@ impl State {
         }
     }
 
+    // One SipRound.
     fn round(self) -> State
         ensures { λ r. ⌜ r ≡ SipRound self ⌝ }
     {
@@ -106,6 +107,7 @@ pub struct SipHash {
 }
 
 impl SipHash {
+    // The hash under a key, whose first byte is the least significant of k0.
     pub fn new(key: [u8; 16]) -> SipHash
         ensures { λ r. ⌜ r .key ≡ key ⌝ }
     {
@@ -113,6 +115,7 @@ impl SipHash {
     }
 }
 
+// The cell is the eight bytes of the hash, least significant first, and 24 zeros.
 pub impl Hash for SipHash as SipHashImage {
     const KIND: u8 = 2;
 
@@ -152,6 +155,7 @@ mod tests {
         check_eq(siphash_2_4(&KEY, &KEY[0..15]), 0xa129ca6149be45e5)
     }
 
+    // The bytes of 0x8c27ab541c5b67bc, computed apart from this code.
     #[test]
     fn image_of_zeros() -> Result<(), Fail> {
         let mut cell = [0; 32];

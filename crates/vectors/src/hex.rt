@@ -7,6 +7,7 @@ ghost use Rattle.vectors.specs.Hex.{hex-byte, unhex};
 use std::alloc::AllocError;
 use std::alloc::Global;
 
+// The byte of a high and a low digit.
 fn byte_of(pair: [u8; 2]) -> Option<u8>
     ensures { λ r. ⌜ r ≡ hex-byte pair ⌝ }
 {

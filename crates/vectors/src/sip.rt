@@ -7,7 +7,7 @@ ghost use Rattle.std.specs.Of.Vec.{vec-items};
 ghost use Rattle.std.specs.Options.{Cases as BySome};
 ghost use Rattle.std.specs.Orderings.{Decides};
 ghost use Rattle.std.specs.Vec.{made};
-ghost use Rattle.vectors.specs.Sip.{Judged, Says, expected};
+ghost use Rattle.vectors.specs.Sip.{Judged, Says, Tallies, expected};
 use crate::hex;
 use crate::tally::Problem;
 use crate::tally::Tally;
@@ -18,6 +18,7 @@ use std::alloc::Global;
 // Every vector has this key.
 const KEY: [u8; 16] = [0, 1, 2, 3, 4, 5, 6, 7, 8, 9, 10, 11, 12, 13, 14, 15];
 
+// What one line says.
 #[derive(Drop)]
 struct Vector {
     length: u8,
@@ -48,6 +49,7 @@ fn read(heap: Global, line: &str) -> Result<Option<Vector>, AllocError>
 }
 
 impl Vector {
+    // Whether the hash is the one that we compute.
     fn agrees(&self, heap: Global) -> Result<bool, AllocError>
         ensures { λ r. ⌜ made r (λ b. Decides b (vec-items (now (self .entry) .hash) ≡ expected (now (self .entry) .length))) ⌝ }
     {
@@ -57,6 +59,7 @@ impl Vector {
     }
 }
 
+// What is wrong with a line, if anything is.
 fn problem_of(heap: Global, line: &str) -> Result<Option<Problem>, AllocError>
     ensures { λ r. ⌜ made r (λ o. Judged (now (line .entry)) o) ⌝ }
 {
@@ -73,12 +76,15 @@ fn problem_of(heap: Global, line: &str) -> Result<Option<Problem>, AllocError>
 }
 
 // Tries every line of a file but its comments.
-pub(crate) fn siphash(heap: Global, text: &str) -> Result<Tally, AllocError> {
+pub(crate) fn siphash(heap: Global, text: &str) -> Result<Tally, AllocError>
+    ensures { λ r. ⌜ made r (λ t. Tallies (now (text .entry)) t) ⌝ }
+{
     let mut tally = Tally::new();
     for (i, line) in text.lines().enumerate() {
-        if !line.starts_with('#') {
-            tally.add(i + 1, problem_of(heap, line)?);
+        if line.starts_with('#') {
+            continue;
         }
+        tally.add(i + 1, problem_of(heap, line)?);
     }
     Ok(tally)
 }

@@ -4,7 +4,6 @@ ghost use mathlib.Core.Path.{_≡_};
 ghost use Prim.Native.Nat.{_+_, _<_, _≤_, _^_};
 ghost use lib.Dec.{ltb};
 ghost use Rattle.std.specs.Options.{isSome};
-ghost use Rattle.std.specs.declared.option.Option.the-variants.{None};
 ghost use Rattle.vectors.specs.First.{first-fault};
 use std::fmt;
 
@@ -15,6 +14,7 @@ pub(crate) enum Problem {
     Unreadable,
 }
 
+// A line, counted from 1, and what is wrong with it.
 #[derive(Clone, Copy, Debug, PartialEq, Eq)]
 pub(crate) struct Fault {
     line: usize,
@@ -42,6 +42,7 @@ pub(crate) struct Tally {
 }
 
 impl Tally {
+    // Nothing counted yet; by the facts above none agree, and there is no fault.
     pub(crate) fn new() -> Tally
         ensures { λ r. ⌜ r .total ≡ 0 ⌝ }
     {
