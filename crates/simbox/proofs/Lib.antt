@@ -1,3 +1,4 @@
 pub mod Hex
-pub mod SimLines
 pub mod Loaded
+pub mod Reported
+pub mod SimLines

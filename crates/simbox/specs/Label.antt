@@ -13,6 +13,7 @@ use Rattle.digest.specs.SipHash.{sip-cell}
 use Rattle.subscriber.specs.Answer.{plain-sheet}
 use Rattle.subscriber.specs.Block.{sim-block}
 use Rattle.subscriber.specs.Sheet.{sheet-of}
+use Rattle.subscriber.specs.declared.cause.SheetError.{SheetError}
 use Rattle.subscriber.specs.declared.cause.SheetError.the-variants as error
 use Rattle.subscriber.specs.declared.sheet.Sheet.{Sheet}
 use Rattle.subscriber.specs.declared.sim.Sim.{Sim}
@@ -21,8 +22,6 @@ use Rattle.subscriber.specs.declared.tray.HashChoice.the-variants.{SipHash}
 use Rattle.tree.specs.Geometry.{levels, total}
 use Rattle.tree.specs.Layout.{zero-block, root-of}
 use Rattle.simbox.specs.Report.{head-line, sim-lines, tree-line, label-line}
-use Rattle.simbox.specs.declared.failure.Failure.{Failure}
-use Rattle.simbox.specs.declared.failure.Failure.the-variants as failure
 
 -- the hash that a sheet names: the image of a block under it, and its kind
 abbrev pub image-for : HashChoice → List ℕ → List ℕ
@@ -35,17 +34,17 @@ kind-for (SipHash key) = 2
 abbrev pub volume-of : List Sim → ℕ → List (List ℕ)
 volume-of sims blocks = map sim-block sims ++ replicate (blocks - length sims) zero-block
 
--- the report of a tray
-unfoldable pub report-of : ℕ → HashChoice → ℕ → List Sim → List ℕ
-report-of tray hash blocks sims =
-    head-line tray (length sims) blocks
-    ++ (sim-lines 0 sims ++ (tree-line (levels blocks) (total blocks) ++ label-line (kind-for hash) (root-of (image-for hash) (volume-of sims blocks))))
+-- the report of a tray, under a hash of some kind
+unfoldable pub report-with : ℕ → (List ℕ → List ℕ) → ℕ → ℕ → List Sim → List ℕ
+report-with kind image tray blocks sims =
+    head-line tray (length sims) blocks ++ (sim-lines 0 sims ++ (tree-line (levels blocks) (total blocks) ++ label-line kind (root-of image (volume-of sims blocks))))
+
+-- the report of a sheet
+abbrev pub report-of : Sheet → List ℕ
+report-of s = report-with (kind-for (s .hash)) (image-for (s .hash)) (s .tray .value) (s .blocks .value) (vec-items (s .sims))
 
 -- what is answered to the text of a sheet: the report of what it says, or the line that is refused and why; want of memory may come at any time
-abbrev pub Labelled : List ℕ → Result (String Global) Failure → Type 0
-Labelled text (Ok s) =
-    (sheet : Sheet) × (sheet-of text ≡ Ok (plain-sheet sheet)) × (string-bytes s ≡ report-of (sheet .tray .value) (sheet .hash) (sheet .blocks .value) (vec-items (sheet .sims)))
-Labelled text (Err (failure.Refused (error.Bad line cause))) = sheet-of text ≡ Err (line, cause)
-Labelled text (Err (failure.Refused error.NoMemory)) = Unit {0}
-Labelled text (Err failure.NoMemory) = Unit {0}
-Labelled text (Err (failure.Block n)) = ⊥
+abbrev pub Labelled : List ℕ → Result (String Global) SheetError → Type 0
+Labelled text (Ok s) = (sheet : Sheet) × (sheet-of text ≡ Ok (plain-sheet sheet)) × (string-bytes s ≡ report-of sheet)
+Labelled text (Err (error.Bad line cause)) = sheet-of text ≡ Err (line, cause)
+Labelled text (Err error.NoMemory) = Unit {0}

@@ -1,5 +1,5 @@
 // From a tray's sheet to the label of its box.
-mod failure;
+mod label;
 mod lines;
 mod load;
 mod report;

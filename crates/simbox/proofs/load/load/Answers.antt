@@ -6,7 +6,7 @@ use lib.ListN.{length, set, replicate, length-replicate}
 use Rattle.std.specs.Of.Vec.{vec-items, vec-len}
 use Rattle.subscriber.specs.Block.{sim-block}
 use Rattle.tree.specs.Layout.{zero-block}
-use Rattle.simbox.proofs.Loaded.{loaded-none, loaded-more, loaded-all}
+use Rattle.simbox.proofs.Loaded.{not-refused, loaded-none, loaded-more, loaded-length, loaded-all}
 use Rattle.simbox.proofs.load.load.Needs as need
 use Rattle.simbox.proofs.load.load.Needs.{In-Continue-contents}
 
@@ -26,10 +26,14 @@ pub loop-k-again : need.loop-k-again
 loop-k-again c =
     let sims = c .args .sims .now in
     let k = c .loop-k .k in
-    let sim = c .index-sims-k .result in
-    let was = vec-items (c .loop-k .contents .blocks) in
-    loaded-more sim-block zero-block sims (vec-len (c .in-Continue-contents .contents .blocks)) (room (need.at·loop-k-again c .In-Continue-contents)) k was (vec-items (c .put .last .self .blocks)) sim
-    (c .loop-k-test .taken) (c .loop-k .inv) (c .in-Continue-put .ensures tt .1 ∙ ap (set was k) (c .encode .ensures ∙ ap sim-block (c .index-sims-k .is)))
+    let n = vec-len (c .in-Continue-contents .contents .blocks) in
+    let fits = room (need.at·loop-k-again c .In-Continue-contents) in
+    let before = c .loop-k .contents .blocks in
+    let after = c .put .last .self .blocks in
+    let long = loaded-length sim-block zero-block sims n fits k (vec-items before) (omega (arith, c .loop-k-test .taken)) (c .loop-k .inv) in
+    let put = not-refused (c .put .result) _ _ (c .put .ensures) (λ e no-room. omega (arith, no-room .0, before .ok .0, long, c .loop-k-test .taken, fits)) in
+    loaded-more sim-block zero-block sims n fits k (vec-items before) (vec-items after) (c .index-sims-k .result) (c .loop-k-test .taken) (c .loop-k .inv)
+    (put .1 ∙ ap (set (vec-items before) k) (c .encode .ensures ∙ ap sim-block (c .index-sims-k .is)))
 
 pub returns : need.returns
 returns c =

@@ -1,7 +1,7 @@
 use mathlib.Core.List.{append-nil, _++_}
 use mathlib.Core.Path.{sym, ap, _∙_}
 use Rattle.std.specs.Of.String.{string-bytes}
-use Rattle.simbox.proofs.SimLines.{lines-more, lines-all}
+use Rattle.simbox.proofs.SimLines.{always-held, lines-more, lines-all}
 use Rattle.simbox.proofs.report.write_sims.Needs as need
 
 pub loop-k-holds : need.loop-k-holds
@@ -16,3 +16,7 @@ loop-k-again c = λ sims held.
 
 pub returns : need.returns
 returns c = λ sims held. lines-all (c .args .blocks .now) sims held (string-bytes (c .args .text .now)) (string-bytes (c .loop-k .text)) (c .loop-k .k) (c .loop-k-test .left) (c .loop-k .inv sims held)
+
+pub loop-k-again-in-rest : need.loop-k-again-in-rest
+loop-k-again-in-rest c = λ sims held.
+    absurd (always-held (c .args .blocks .now) sims held (c .loop-k .k) (c .loop-k-test .taken) (λ t is. c .in-rest .not-Some t (c .decode .ensures .finds t is)))

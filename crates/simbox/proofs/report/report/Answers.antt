@@ -1,0 +1,38 @@
+use mathlib.Core.List.{map}
+use mathlib.Core.Path.{_≡_, sym, ap, _∙_}
+use Prim.Native.Nat.{_≤_}
+use native.Mathlib.Omega.{arith}
+use lib.ListN.{length, take}
+use Rattle.std.specs.Of.String.{string-bytes}
+use Rattle.std.specs.Of.Vec.{vec-items}
+use Rattle.subscriber.specs.Block.{sim-block}
+use Rattle.tree.specs.Layout.{root-of}
+use Rattle.simbox.specs.Label.{volume-of}
+use Rattle.simbox.specs.Report.{head-line}
+use Rattle.simbox.proofs.Reported.{volume-length, volume-sims, reported}
+use Rattle.simbox.proofs.report.report.Needs as need
+
+pub split-at-requires : need.split-at-requires
+split-at-requires g c κs =
+    let sheet = c .args .sheet .now in
+    let sims = vec-items (sheet .sims) in
+    let room : length sims ≤ sheet .blocks .value = omega (arith, sheet .few, sheet .sims .ok .0) in
+    omega (arith, ap length (c .sims-sims .ensures .value), ap length (c .blocks-3 .ensures), ap length (c .pre), volume-length sims (sheet .blocks .value) room)
+
+pub returns : need.returns
+returns g c =
+    let sheet = c .args .sheet .now in
+    let sims = vec-items (sheet .sims) in
+    let blocks = sheet .blocks .value in
+    let image = g .H·Hash .image (c .args .hash .now) in
+    let room : length sims ≤ blocks = omega (arith, sheet .few, sheet .sims .ok .0) in
+    let count : length (c .sims-sims .result .now) ≡ length sims = ap length (c .sims-sims .ensures .value) in
+    let held : map sim-block sims ≡ c .split-at .result .0 .now =
+        sym (c .split-at .ensures .front ∙ (λ i. take (count i) ((c .blocks-3 .ensures ∙ c .pre) i)) ∙ volume-sims sims blocks room) in
+    let size : c .geometry .result .blocks ≡ blocks = c .geometry .ensures ∙ c .args .contents .now .blocks .ok .0 ∙ ap length (c .pre) ∙ volume-length sims blocks room in
+    let root : c .root .result ≡ root-of image (volume-of sims blocks) = c .root .ensures ∙ c .in-Continue-tree .ensures tt .layout .1 ∙ ap (root-of image) (c .pre) in
+    reported sims blocks room (g .H·Hash .number) image (sheet .tray .value) (c .geometry .result .blocks) (c .kind-number .result) (c .root .result)
+    (string-bytes (c .in-Continue-text .text)) (string-bytes (c .write-sims .last .text)) (string-bytes (c .write-tree .last .text)) size (c .kind-number .ensures) root
+    (c .in-Continue-text .ensures tt ∙ (λ i. head-line (c .tray .ensures .value i) (count i) (c .blocks-2 .ensures .value i)))
+    (c .in-Continue-write-sims .ensures tt sims held)
+    (c .in-Continue-write-tree .ensures tt)
