@@ -10,6 +10,7 @@ pub mod read;
 mod scan;
 pub mod sequence;
 pub mod sheet;
+pub mod shown;
 pub mod sim;
 mod step;
 mod text;

@@ -17,8 +17,7 @@ loop-rest-again c =
     let d = draft-of (c .loop-rest .headers) (vec-items (c .loop-rest .sims)) in
     let e = draft-of (c .in-Ok .more) (vec-items (c .take-line .last .sims)) in
     let cut = c .cut-line-cut .ensures in
-    let step = read-more (c .loop-rest .line) d (c .cut-line-cut .result .piece .now) (lines (c .cut-line-cut .result .rest .now)) e (c .in-Ok .ensures tt) in
-    (
+    let step = read-more (c .loop-rest .line) d (c .cut-line-cut .result .piece .now) (lines (c .cut-line-cut .result .rest .now)) e (c .in-Ok .ensures tt) in (
       sym step ∙ ap (read-from (c .loop-rest .line) d) (sym (cut .first)) ∙ c .loop-rest .inv .0,
       omega (arith, cut .shorter, c .loop-rest .inv .1),
       room-more d (c .cut-line-cut .result .piece .now) e (c .loop-rest .inv .2) (c .in-Ok .ensures tt),
