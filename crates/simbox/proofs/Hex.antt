@@ -11,7 +11,7 @@ use Rattle.simbox.specs.Report.{hex, hex-digit}
 
 module _ (bytes : List ℕ) (i : ℕ) where
   pub hex-more : (text once twice : List ℕ) (high low : ℕ) → i < length bytes → text ++ hex (drop i bytes) ≡ hex bytes → high ≡ hex-digit (getD bytes i 0 / 16) → low ≡ hex-digit (getD bytes i 0 % 16)
-    → once ≡ text ++ high ∷ [] → twice ≡ once ++ low ∷ [] → twice ++ hex (drop (i + 1) bytes) ≡ hex bytes
+      → once ≡ text ++ high ∷ [] → twice ≡ once ++ low ∷ [] → twice ++ hex (drop (i + 1) bytes) ≡ hex bytes
   hex-more text once twice high low h sofar is-high is-low first second =
       let rest = hex (drop (i + 1) bytes) in
       ap (λ t. t ++ rest) (second ∙ ap (λ t. t ++ low ∷ []) first)

@@ -25,7 +25,7 @@ module _ (sims : List Sim) (blocks : ℕ) (room : length sims ≤ blocks) where
   volume-sims = take-at (map sim-block sims) (replicate (blocks - length sims) zero-block) (length sims) (length-map sims sim-block)
 
   pub reported : (kind : ℕ) (image : List ℕ → List ℕ) (tray n k : ℕ) (root first second third : List ℕ) → n ≡ blocks → k ≡ kind → root ≡ root-of image (volume-of sims blocks) → first ≡ head-line tray (length sims) blocks
-    → second ≡ first ++ sim-lines 0 sims → third ≡ second ++ (tree-line (levels n) (total n) ++ label-line k root) → third ≡ report-with kind image tray blocks sims
+      → second ≡ first ++ sim-lines 0 sims → third ≡ second ++ (tree-line (levels n) (total n) ++ label-line k root) → third ≡ report-with kind image tray blocks sims
   unfolding report-with
   reported kind image tray n k root first second third size is-kind is-root head lines last =
       last ∙ (λ i. (lines ∙ ap (λ t. t ++ sim-lines 0 sims) head) i ++ (tree-line (levels (size i)) (total (size i)) ++ label-line (is-kind i) (is-root i)))

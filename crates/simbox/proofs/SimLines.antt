@@ -30,13 +30,13 @@ member (x ∷ xs) (suc k) h = member xs k (le-of-suc-le-suc h)
 
 module _ (blocks : List (List ℕ)) (sims : List Sim) (held : map sim-block sims ≡ blocks) where
   pub lines-more : (before text after : List ℕ) (k : ℕ) (s : Sim) → k < length blocks → ((t : Sim) → sim-block t ≡ getD blocks k [] → Some s ≡ Some t)
-    → text ≡ before ++ sim-lines 0 (take k sims) → after ≡ text ++ sim-line k s → after ≡ before ++ sim-lines 0 (take (k + 1) sims)
+      → text ≡ before ++ sim-lines 0 (take k sims) → after ≡ text ++ sim-line k s → after ≡ before ++ sim-lines 0 (take (k + 1) sims)
   lines-more before text after k s h finds sofar more =
       let few : k < length sims = omega (arith, length-map sims sim-block, ap length held) in
       let is : s ≡ getD sims k s = same-some s (getD sims k s) (finds (getD sims k s) (sym (getD-map sim-block sims k s [] few) ∙ ap (λ l. getD l k []) held)) in
       let n : 0 + length (take k sims) ≡ k = omega (arith, length-take-le k sims (omega arith)) in
       let pushed : sim-lines 0 (take (k + 1) sims) ≡ sim-lines 0 (take k sims) ++ sim-line k s =
-          ap (sim-lines 0) (take-more sims k s few) ∙ lines-push 0 (take k sims) (getD sims k s) ∙ (λ i. sim-lines 0 (take k sims) ++ sim-line (n i) (sym is i)) in
+      ap (sim-lines 0) (take-more sims k s few) ∙ lines-push 0 (take k sims) (getD sims k s) ∙ (λ i. sim-lines 0 (take k sims) ++ sim-line (n i) (sym is i)) in
       more ∙ ap (λ t. t ++ sim-line k s) sofar ∙ append-assoc before (sim-lines 0 (take k sims)) (sim-line k s) ∙ ap (λ l. before ++ l) (sym pushed)
 
   -- no block is without a SIM

@@ -9,7 +9,12 @@ use std::alloc::Global;
 use subscriber::identity::IdentityDisplay;
 use subscriber::sim::Sim;
 
-pub(crate) fn head_line(heap: Global, tray: u32, sims: usize, blocks: u16) -> Result<String, AllocError>
+pub(crate) fn head_line(
+    heap: Global,
+    tray: u32,
+    sims: usize,
+    blocks: u16,
+) -> Result<String, AllocError>
     ensures { λ r. ⌜ made r (λ s. string-bytes s ≡ head-line tray sims blocks) ⌝ }
 {
     format!(heap, "tray {tray}: SIMs {sims}, blocks {blocks}\n")
@@ -21,7 +26,10 @@ pub(crate) fn sim_line(heap: Global, block: usize, sim: &Sim) -> Result<String, 
     let identity = sim.identity;
     let key = sim.key;
     let sequence = sim.sequence.value();
-    format!(heap, "block {block}: identity {identity}, key {key}, sequence {sequence}\n")
+    format!(
+        heap,
+        "block {block}: identity {identity}, key {key}, sequence {sequence}\n"
+    )
 }
 
 pub(crate) fn tree_line(heap: Global, levels: usize, blocks: usize) -> Result<String, AllocError>

@@ -10,7 +10,8 @@ use std::io::Read;
 use subscriber::cause::SheetError;
 use subscriber::shown::SheetErrorDisplay;
 
-const USAGE: &str = "usage: simbox label < SHEET   print the label of a tray from its sheet\n       simbox --help          print this\n";
+const USAGE: &str =
+    "usage: simbox label < SHEET   print the label of a tray from its sheet\n       simbox --help          print this\n";
 
 // Why the program ends without having done its work.
 #[derive(Drop)]

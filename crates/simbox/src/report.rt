@@ -39,7 +39,13 @@ fn write_sims(heap: Global, text: &mut String, blocks: &[[u8; 512]]) -> Result<(
 }
 
 // The two lines on the tree.
-fn write_tree(heap: Global, text: &mut String, geometry: Geometry, kind: u8, root: &[u8]) -> Result<(), AllocError>
+fn write_tree(
+    heap: Global,
+    text: &mut String,
+    geometry: Geometry,
+    kind: u8,
+    root: &[u8],
+) -> Result<(), AllocError>
     ensures { λ r. ⌜ made r (λ _. string-bytes (now (text .exit)) ≡ string-bytes (now (text .entry)) ++ (tree-line (levels (geometry .blocks)) (total (geometry .blocks)) ++ label-line kind (now (root .entry)))) ⌝ }
 {
     let shape = tree_line(heap, geometry.levels(), geometry.total())?;
@@ -50,7 +56,12 @@ fn write_tree(heap: Global, text: &mut String, geometry: Geometry, kind: u8, roo
 }
 
 // The whole report. The SIMs are read again from the blocks that the tree lies over.
-pub(crate) fn report<H: Hash>(heap: Global, sheet: &Sheet, hash: &H, contents: &Contents) -> Result<String, AllocError>
+pub(crate) fn report<H: Hash>(
+    heap: Global,
+    sheet: &Sheet,
+    hash: &H,
+    contents: &Contents,
+) -> Result<String, AllocError>
     requires { ⌜ vec-items (now contents .blocks) ≡ volume-of (vec-items (now sheet .sims)) (now sheet .blocks .value) ⌝ }
     ensures { λ r. ⌜ made r (λ s. string-bytes s ≡ report-with (H·Hash .number) (H·Hash .image (now (hash .entry))) (now (sheet .entry) .tray .value) (now (sheet .entry) .blocks .value) (vec-items (now (sheet .entry) .sims))) ⌝ }
 {
@@ -59,6 +70,12 @@ pub(crate) fn report<H: Hash>(heap: Global, sheet: &Sheet, hash: &H, contents: &
     let mut text = head_line(heap, sheet.tray(), sims, sheet.blocks())?;
     let (held, _) = contents.blocks().split_at(sims);
     write_sims(heap, &mut text, held)?;
-    write_tree(heap, &mut text, contents.geometry(), H::kind_number(), &tree.root())?;
+    write_tree(
+        heap,
+        &mut text,
+        contents.geometry(),
+        H::kind_number(),
+        &tree.root(),
+    )?;
     Ok(text)
 }

@@ -108,9 +108,9 @@ sixteen-other : (cs : List (List ℕ)) (n j : ℕ) (d : List ℕ) → (j ≡ n /
 sixteen-other cs n j d ne =
     ⊎-elim (λ low. ap (take 16) (drop-set-lt (16 * j) cs n d low))
     (λ high.
-        let e : n ≡ 16 * j + (n - 16 * j) = omega arith in
-        let past : 16 ≤ n - 16 * j = ⊎-elim (λ s. absurd (ne (omega arith))) (λ b. omega arith) (cases-lt n (16 * j + 16)) in
-        ap (λ m. take 16 (drop (16 * j) (set cs m d))) e ∙ ap (take 16) (drop-set-add (16 * j) cs (n - 16 * j) d) ∙ take-set-le 16 (drop (16 * j) cs) (n - 16 * j) d past)
+    let e : n ≡ 16 * j + (n - 16 * j) = omega arith in
+    let past : 16 ≤ n - 16 * j = ⊎-elim (λ s. absurd (ne (omega arith))) (λ b. omega arith) (cases-lt n (16 * j + 16)) in
+    ap (λ m. take 16 (drop (16 * j) (set cs m d))) e ∙ ap (take 16) (drop-set-add (16 * j) cs (n - 16 * j) d) ∙ take-set-le 16 (drop (16 * j) cs) (n - 16 * j) d past)
     (cases-lt n (16 * j))
 
 -- one cell replaced: one cell of one block is
@@ -122,20 +122,20 @@ pack-set cs n d e w long h =
     let new = put-cell (getD (pack cs) (n / 16) e) (n % 16) d in
     same-lists (pack (set cs n d)) (set (pack cs) (n / 16) new) (size ∙ sym (length-set (pack cs) (n / 16) new ∙ length-pack cs))
     (λ j x lt.
-        let inside : j < up (length cs) = omega (arith, size) in
-        let left : getD (pack (set cs n d)) j x ≡ side-by-side (sixteen (set cs n d) j) = getD-pack (set cs n d) j x (omega (arith, blocks)) in
-        ⊎-elim
-        (λ same.
-            let at : sixteen (set cs n d) j ≡ set (sixteen cs (n / 16)) (n % 16) d = ap (sixteen (set cs n d)) same ∙ sixteen-same cs n d in
-            let few : length (sixteen cs (n / 16)) ≤ 16 = omega (arith, length-take 16 (drop (16 * (n / 16)) cs)) in
-            let in-it : n % 16 < length (sixteen cs (n / 16)) = omega (arith, length-take 16 (drop (16 * (n / 16)) cs), length-drop (16 * (n / 16)) cs) in
-            left ∙ ap side-by-side at ∙ side-set (sixteen cs (n / 16)) (n % 16) d (wide-take 16 (drop (16 * (n / 16)) cs) (wide-drop (16 * (n / 16)) cs w)) long few in-it
-            ∙ ap (λ b. put-cell b (n % 16) d) (sym (getD-pack cs (n / 16) e q))
-            ∙ sym (ap (λ k. getD (set (pack cs) (n / 16) new) k x) same ∙ getD-set-same (pack cs) (n / 16) new x (omega (arith, length-pack cs))))
-        (λ other.
-            let ne : j ≡ n / 16 → ⊥ = ⊎-elim (λ a s. omega arith) (λ a s. omega arith) other in
-            left ∙ ap side-by-side (sixteen-other cs n j d ne) ∙ sym (getD-set-other (pack cs) (n / 16) j new x ne ∙ getD-pack cs j x inside))
-        (cases-order j (n / 16)))
+    let inside : j < up (length cs) = omega (arith, size) in
+    let left : getD (pack (set cs n d)) j x ≡ side-by-side (sixteen (set cs n d) j) = getD-pack (set cs n d) j x (omega (arith, blocks)) in
+    ⊎-elim
+    (λ same.
+    let at : sixteen (set cs n d) j ≡ set (sixteen cs (n / 16)) (n % 16) d = ap (sixteen (set cs n d)) same ∙ sixteen-same cs n d in
+    let few : length (sixteen cs (n / 16)) ≤ 16 = omega (arith, length-take 16 (drop (16 * (n / 16)) cs)) in
+    let in-it : n % 16 < length (sixteen cs (n / 16)) = omega (arith, length-take 16 (drop (16 * (n / 16)) cs), length-drop (16 * (n / 16)) cs) in
+    left ∙ ap side-by-side at ∙ side-set (sixteen cs (n / 16)) (n % 16) d (wide-take 16 (drop (16 * (n / 16)) cs) (wide-drop (16 * (n / 16)) cs w)) long few in-it
+    ∙ ap (λ b. put-cell b (n % 16) d) (sym (getD-pack cs (n / 16) e q))
+    ∙ sym (ap (λ k. getD (set (pack cs) (n / 16) new) k x) same ∙ getD-set-same (pack cs) (n / 16) new x (omega (arith, length-pack cs))))
+    (λ other.
+    let ne : j ≡ n / 16 → ⊥ = ⊎-elim (λ a s. omega arith) (λ a s. omega arith) other in
+    left ∙ ap side-by-side (sixteen-other cs n j d ne) ∙ sym (getD-set-other (pack cs) (n / 16) j new x ne ∙ getD-pack cs j x inside))
+    (cases-order j (n / 16)))
 
 -- one more block of zeros
 pub zeros-more : (n m : ℕ) (blocks more : List (List ℕ)) → blocks ≡ replicate n zero-block → more ≡ blocks ++ zero-block ∷ [] → m ≡ n + 1 → more ≡ replicate m zero-block
@@ -176,9 +176,9 @@ pack-zeros n =
     let size : length (pack (replicate n zero-cell)) ≡ up n = length-pack (replicate n zero-cell) ∙ ap up (length-replicate n zero-cell) in
     same-lists (pack (replicate n zero-cell)) (replicate (up n) zero-block) (size ∙ sym (length-replicate (up n) zero-block))
     (λ j x lt.
-        let inside : j < up n = omega (arith, size) in
-        let within : j < up (length (replicate n zero-cell)) = omega (arith, length-replicate n zero-cell) in
-        getD-pack (replicate n zero-cell) j x within ∙ sixteen-zeros n j ∙ sym (getD-replicate (up n) j zero-block x inside))
+    let inside : j < up n = omega (arith, size) in
+    let within : j < up (length (replicate n zero-cell)) = omega (arith, length-replicate n zero-cell) in
+    getD-pack (replicate n zero-cell) j x within ∙ sixteen-zeros n j ∙ sym (getD-replicate (up n) j zero-block x inside))
 
 -- a write to the bytes of one cell
 pub put-cell-is : (block : List ℕ) (c k : ℕ) (cell bytes : List ℕ) → k ≡ 32 → bytes ≡ cell → putMid (32 * c) k block bytes ≡ put-cell block c cell

@@ -40,7 +40,7 @@ module _ (before : List (List ℕ)) (at : ℕ) (cells : List (List ℕ)) (room :
       ∙ ap (λ l. take at before ++ l) (sym (take-append-drop w (drop at before)) ∙ (λ k. (empty ∙ sym packed) k ++ drop-drop w at before k))
 
   pub laid-more : (j : ℕ) (after : List (List ℕ)) (cell e : List ℕ) → Wide cells → j < length cells → Laid before at cells j after → cell ≡ getD cells j cell
-    → Laid before at cells (j + 1) (set after (at + j / 16) (put-cell (getD after (at + j / 16) e) (j % 16) cell))
+      → Laid before at cells (j + 1) (set after (at + j / 16) (put-cell (getD after (at + j / 16) e) (j % 16) cell))
   laid-more j after cell e w h laid read =
       let a = take at before in
       let x = pack (first cells j) in
@@ -52,11 +52,11 @@ module _ (before : List (List ℕ)) (at : ℕ) (cells : List (List ℕ)) (room :
       let inside : q < length x = omega arith in
       let back : at + q - at ≡ q = omega arith in
       let old : getD after (at + q) e ≡ getD x q e =
-          ap (λ l. getD l (at + q) e) laid ∙ getD-append-right a (x ++ b) at (at + q) e front (omega arith) ∙ ap (λ n. getD (x ++ b) n e) back ∙ getD-append-left x b e q inside in
+      ap (λ l. getD l (at + q) e) laid ∙ getD-append-right a (x ++ b) at (at + q) e front (omega arith) ∙ ap (λ n. getD (x ++ b) n e) back ∙ getD-append-left x b e q inside in
       let new = put-cell (getD x q e) (j % 16) cell in
       let wide = wide-append (take j cells) (replicate (length cells - j) zero-cell) (wide-take j cells w) (wide-replicate (length cells - j) zero-cell length-zero-cell) in
       let packed : set x q new ≡ pack (first cells (j + 1)) =
-          sym (pack-set (first cells j) j cell e wide (ap length read ∙ wide-at cells j cell w h) (omega (arith, few))) ∙ ap (λ c. pack (set (first cells j) j c)) read ∙ ap pack (first-more cells j cell h) in
+      sym (pack-set (first cells j) j cell e wide (ap length read ∙ wide-at cells j cell w h) (omega (arith, few))) ∙ ap (λ c. pack (set (first cells j) j c)) read ∙ ap pack (first-more cells j cell h) in
       (λ k. set (laid k) (at + q) (put-cell (old k) (j % 16) cell))
       ∙ set-append-right a (x ++ b) at (at + q) new front (omega arith)
       ∙ ap (λ n. a ++ set (x ++ b) n new) back
@@ -92,7 +92,7 @@ module _ (image : List ℕ → List ℕ) (wide : (block : List ℕ) → length (
   images-none empty = laid-none before at (map image below) fits (subst (λ n. take (up n) (drop at before) ≡ replicate (up n) zero-block) (sym (length-map below image)) empty)
 
   pub images-more : (j : ℕ) (after next : List (List ℕ)) (place : ℕ × ℕ) (cell : List ℕ) → j < length below → Laid before at (map image below) j after → place ≡ (at + j / 16, j % 16)
-    → cell ≡ image (getD below j []) → next ≡ set after (place .0) (put-cell (getD after (place .0) []) (place .1) cell) → Laid before at (map image below) (j + 1) next
+      → cell ≡ image (getD below j []) → next ≡ set after (place .0) (put-cell (getD after (place .0) []) (place .1) cell) → Laid before at (map image below) (j + 1) next
   images-more j after next place cell h laid is read put =
       let inside : j < length (map image below) = omega (arith, length-map below image) in
       put ∙ (λ k. set after (is k .0) (put-cell (getD after (is k .0) []) (is k .1) cell))
@@ -117,12 +117,12 @@ module _ (image : List ℕ → List ℕ) (wide : (block : List ℕ) → length (
   raised-none empty = images-none image wide before lower-level to its-room (subst (λ n. take (up n) (drop to before) ≡ replicate (up n) zero-block) (sym its-length) empty)
 
   pub raised-more : (j : ℕ) (after next : List (List ℕ)) (place : ℕ × ℕ) (cell : List ℕ) → j < count → Laid before to (map image lower-level) j after → place ≡ (to + j / 16, j % 16)
-    → cell ≡ image (getD after (from + j) []) → next ≡ set after (place .0) (put-cell (getD after (place .0) []) (place .1) cell) → Laid before to (map image lower-level) (j + 1) next
+      → cell ≡ image (getD after (from + j) []) → next ≡ set after (place .0) (put-cell (getD after (place .0) []) (place .1) cell) → Laid before to (map image lower-level) (j + 1) next
   raised-more j after next place cell h laid is read put =
       let cells = length-map lower-level image in
       let same : getD after (from + j) [] ≡ getD lower-level j [] =
-          laid-past before to (map image lower-level) (omega (arith, cells, its-room)) j after (from + j) [] (omega (arith, cells, its-length)) laid (omega (arith, cells, its-length))
-          ∙ sym (getD-take count (drop from before) j [] h ∙ getD-drop from before j []) in
+      laid-past before to (map image lower-level) (omega (arith, cells, its-room)) j after (from + j) [] (omega (arith, cells, its-length)) laid (omega (arith, cells, its-length))
+      ∙ sym (getD-take count (drop from before) j [] h ∙ getD-drop from before j []) in
       images-more image wide before lower-level to its-room j after next place cell (omega (arith, its-length)) laid is (read ∙ ap image same) put
 
   pub raised-all : (j : ℕ) (after : List (List ℕ)) → count ≤ j → Laid before to (map image lower-level) j after → after ≡ take to before ++ (pack (map image lower-level) ++ drop (to + up count) before)

@@ -4,12 +4,13 @@ use mathlib.Core.Logic.{_⊎_, inl, inr, ⊎-elim}
 use mathlib.Core.Bool.{cond, true, false}
 use Prim.Native.Nat.{ℕ, zero, suc, max, _+_, _-_, _*_, _/_, _%_, _^_, _≤_, _<_}
 use native.Mathlib.Nat.{div-div-eq-div-mul, pow-suc, pow-zero, div-one, mul-comm}
+use native.Mathlib.Numerals.{add-one}
 use native.Mathlib.Omega.{arith}
 use lib.Count.{leadingZeros, leading-length}
 use lib.Dec.{leb}
 use lib.Pow.{pow-mono, pow-add, pow-pos}
 use Rattle.std.proofs.shelf.Tests.{cases-lt, le-leb, lt-leb, cond-true, cond-false}
-use Rattle.tree.specs.Geometry.{up, width, packings, levels, lower, total, start, place}
+use Rattle.tree.specs.Geometry.{up, width, packings, levels, lower, total, above, start, place}
 
 -- one packing is the last where at most sixteen are left
 packings-last : (f n : ℕ) → n ≤ 16 → packings (suc f) n ≡ 1
@@ -124,20 +125,24 @@ pub total-most : (n : ℕ) → 1 ≤ n → n ≤ 4096 → total n ≤ 768
 unfolding total
 total-most n least most = let few = levels-most n least most in omega (arith, lower-most n (levels n) least most few)
 
+-- what the levels from l on have, and those below it
+pub above-split : (n l : ℕ) → l ≤ levels n → above n l + lower n l ≡ total n
+unfolding total
+above-split n l h = omega (arith, lower-mono n l (levels n) h)
+
+pub above-most : (n l : ℕ) → 1 ≤ n → n ≤ 4096 → above n l ≤ 768
+above-most n l least most = omega (arith, total-most n least most)
+
 -- a level lies after all levels above it and before those below it
 pub start-split : (n l : ℕ) → l < levels n → start n l + lower n (suc l) ≡ total n
-unfolding start total
-start-split n l h = omega (arith, lower-mono n (suc l) (levels n) h)
+start-split n l h = omega (arith, above-split n (suc l) h, ap (above n) (add-one l))
 
 pub start-next : (n l : ℕ) → suc l < levels n → start n (suc l) + width n (suc l) ≡ start n l
 start-next n l h = omega (arith, start-split n l (omega arith), start-split n (suc l) h)
 
 pub start-top : (n l : ℕ) → suc l ≡ levels n → start n l ≡ 0
-unfolding start total
-start-top n l e = let same : lower n (suc l) ≡ lower n (levels n) = ap (lower n) e in omega arith
-
-pub start-most : (n l : ℕ) → 1 ≤ n → n ≤ 4096 → l < levels n → start n l ≤ 768
-start-most n l least most h = omega (arith, start-split n l h, total-most n least most)
+unfolding total
+start-top n l e = omega (arith, ap (lower n) (add-one l ∙ e))
 
 pub total-split : (n : ℕ) → 1 ≤ n → n ≤ 4096 → start n 0 + up n ≡ total n
 total-split n least most = omega (arith, start-split n 0 (levels-least n least most))

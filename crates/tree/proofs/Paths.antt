@@ -4,13 +4,14 @@ use mathlib.Core.Logic.{⊎-elim}
 use mathlib.Core.List.{List, [], _∷_, _++_, map}
 use Prim.Native.Nat.{ℕ, zero, suc, _+_, _-_, _*_, _/_, _%_, _^_, _≤_, _<_}
 use native.Mathlib.Nat.{div-div-eq-div-mul, div-mul-le-self, le-div-iff-mul-le, div-one, le-trans, pow-suc, le-of-suc-le-suc}
+use native.Mathlib.Numerals.{add-one}
 use native.Mathlib.Omega.{arith}
 use lib.ListN.{length, getD, take, drop, replicate, length-append, length-take, length-drop, length-map}
 use lib.Pow.{pow-pos}
 use Rattle.std.proofs.shelf.Lists.{getD-append-left, getD-append-right, getD-take, getD-drop, getD-map, getD-default, take-append-le, drop-append-le, take-at}
 use Rattle.std.proofs.shelf.Tests.{cases-lt}
 use Rattle.std.specs.Joined.{joined}
-use Rattle.tree.specs.Geometry.{up, width, levels, lower, total, start, place}
+use Rattle.tree.specs.Geometry.{up, width, levels, lower, total, above, start, place}
 use Rattle.tree.specs.Layout.{side-by-side, pack, level, stacked, tree-of, root-of}
 use Rattle.tree.specs.Paths.{cell-at, cell-of, Leads, Lead-up}
 use Rattle.tree.proofs.Cells.{Wide, flat, sixteen, wide-take, wide-drop, length-flat, drop-past, getD-pack, length-pack}
@@ -61,20 +62,20 @@ module _ (image : List ℕ → List ℕ) (wide : (block : List ℕ) → length (
         let w = length-level image bs m in
         ⊎-elim
         (λ below.
-            let e : lower n (suc m) - lower n (suc l) + j - width n m ≡ lower n m - lower n (suc l) + j = omega (arith, lower-mono n (suc l) m below) in
-            getD-append-right (level image m bs) (stacked image m bs) (width n m) (lower n (suc m) - lower n (suc l) + j) [] w (omega (arith, lower-mono n (suc l) m below))
-            ∙ ap (λ k. getD (stacked image m bs) k []) e ∙ in-stack m l j below inside)
+        let e : lower n (suc m) - lower n (suc l) + j - width n m ≡ lower n m - lower n (suc l) + j = omega (arith, lower-mono n (suc l) m below) in
+        getD-append-right (level image m bs) (stacked image m bs) (width n m) (lower n (suc m) - lower n (suc l) + j) [] w (omega (arith, lower-mono n (suc l) m below))
+        ∙ ap (λ k. getD (stacked image m bs) k []) e ∙ in-stack m l j below inside)
         (λ here.
-            let same : l ≡ m = omega arith in
-            let e : lower n (suc m) - lower n (suc l) + j ≡ j = omega (arith, ap (λ k. lower n (suc k)) same) in
-            ap (λ k. getD (level image m bs ++ stacked image m bs) k []) e
-            ∙ getD-append-left (level image m bs) (stacked image m bs) [] j (omega (arith, w, ap (width n) same)) ∙ ap (λ k. getD (level image k bs) j []) (sym same))
+        let same : l ≡ m = omega arith in
+        let e : lower n (suc m) - lower n (suc l) + j ≡ j = omega (arith, ap (λ k. lower n (suc k)) same) in
+        ap (λ k. getD (level image m bs ++ stacked image m bs) k []) e
+        ∙ getD-append-left (level image m bs) (stacked image m bs) [] j (omega (arith, w, ap (width n) same)) ∙ ap (λ k. getD (level image k bs) j []) (sym same))
         (cases-lt l m)
 
     -- a block of level l in the tree
     pub in-tree : (l j : ℕ) → l < levels (length bs) → j < width (length bs) l → getD (tree-of image bs) (start (length bs) l + j) [] ≡ getD (level image l bs) j []
-    unfolding tree-of start total
-    in-tree l j h inside = in-stack (levels (length bs)) l j h inside
+    unfolding tree-of total
+    in-tree l j h inside = ap (λ k. getD (tree-of image bs) (above (length bs) k + j) []) (add-one l) ∙ in-stack (levels (length bs)) l j h inside
 
     -- the block of level l that data block k has its place in
     inside-level : (l k : ℕ) → k < length bs → k / 16 ^ suc l < width (length bs) l
@@ -86,7 +87,7 @@ module _ (image : List ℕ → List ℕ) (wide : (block : List ℕ) → length (
     at-place l k h inside = in-tree l (k / 16 ^ suc l) h (inside-level l k inside)
 
     cell-there : (l k : ℕ) → l < levels (length bs) → k < length bs
-      → cell-of (tree-of image bs) (place (length bs) l k) ≡ cell-at (getD (level image l bs) (k / 16 ^ l / 16) []) (k / 16 ^ l % 16)
+        → cell-of (tree-of image bs) (place (length bs) l k) ≡ cell-at (getD (level image l bs) (k / 16 ^ l / 16) []) (k / 16 ^ l % 16)
     unfolding place
     cell-there l k h inside =
         let e : k / 16 ^ suc l ≡ k / 16 ^ l / 16 = ap (λ p. k / p) (pow-suc 16 l) ∙ sym (div-div-eq-div-mul k (16 ^ l) 16) in

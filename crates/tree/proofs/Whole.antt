@@ -31,7 +31,7 @@ module _ (image : List ℕ → List ℕ) (n : ℕ) (bs : List (List ℕ)) (size 
       ap (take (up n)) (drop-replicate s (total n) zero-block ∙ ap (λ k. replicate k zero-block) left) ∙ take-replicate (up n) (up n) zero-block (omega arith)
 
   pub filled-first : (s : ℕ) (before after : List (List ℕ)) → s ≡ start n 0 → before ≡ replicate (total n) zero-block
-    → after ≡ take s before ++ (pack (map image bs) ++ drop (s + up (length bs)) before) → Filled 0 after
+      → after ≡ take s before ++ (pack (map image bs) ++ drop (s + up (length bs)) before) → Filled 0 after
   filled-first s before after at zeros laid =
       let all = total-split n least most in
       let none : total n - (s + up n) ≡ 0 = omega arith in
@@ -66,34 +66,34 @@ module _ (image : List ℕ → List ℕ) (n : ℕ) (bs : List (List ℕ)) (size 
         ∙ take-at (replicate w zero-block) (stacked image (suc l) bs) w (length-replicate w zero-block)
 
     pub filled-more : (after : List (List ℕ))
-      → after ≡ take (start n (suc l)) before ++ (pack (map image (take (width n l) (drop (start n l) before))) ++ drop (start n (suc l) + up (width n l)) before) → Filled (suc l) after
+        → after ≡ take (start n (suc l)) before ++ (pack (map image (take (width n l) (drop (start n l) before))) ++ drop (start n (suc l) + up (width n l)) before) → Filled (suc l) after
     filled-more after laid =
         let to = start n (suc l) in
         let made = stacked image (suc l) bs in
         let front : take to before ≡ replicate to zero-block =
-            ap (take to) filled ∙ take-append-le to (replicate (start n l) zero-block) made (omega (arith, zeros, next)) ∙ take-replicate to (start n l) zero-block (omega (arith, next)) in
+        ap (take to) filled ∙ take-append-le to (replicate (start n l) zero-block) made (omega (arith, zeros, next)) ∙ take-replicate to (start n l) zero-block (omega (arith, next)) in
         let back : drop (start n l) before ≡ made = ap (drop (start n l)) filled ∙ drop-at (replicate (start n l) zero-block) made (start n l) zeros in
         let last : take (width n l) made ≡ level image l bs =
-            take-at (level image l bs) (stacked image l bs) (width n l) (length-level image bs l ∙ ap (λ k. width k l) size) in
+        take-at (level image l bs) (stacked image l bs) (width n l) (length-level image bs l ∙ ap (λ k. width k l) size) in
         laid ∙ (λ i. front i ++ (pack (map image ((ap (take (width n l)) back ∙ last) i)) ++ (ap (λ k. drop k before) next ∙ back) i))
 
   -- what `raise_level` asks, and what it makes, at numbers that are known to be the level's
   module _ (l : ℕ) (more : suc l < levels n) (before : List (List ℕ)) (filled : Filled l before) (from count to : ℕ)
       (at-from : from ≡ start n l) (its-width : count ≡ width n l) (at-to : to ≡ start n (l + 1)) where
-    above : to ≡ start n (suc l)
-    above = at-to ∙ ap (start n) (add-one l)
+    at-next : to ≡ start n (suc l)
+    at-next = at-to ∙ ap (start n) (add-one l)
 
     pub raise-ready : (to + up count ≤ from) × ((from + count ≤ length before) × (length before ≤ 4096)) × (take (up count) (drop to before) ≡ replicate (up count) zero-block)
     raise-ready = (
-      omega (arith, start-next n l more, above, ap up its-width),
+      omega (arith, start-next n l more, at-next, ap up its-width),
       (omega (arith, filled-room l more before filled), filled-few l more before filled),
-      (λ i. take (up (its-width i)) (drop (above i) before)) ∙ filled-empty l more before filled ∙ ap (λ k. replicate (up k) zero-block) (sym its-width),
+      (λ i. take (up (its-width i)) (drop (at-next i) before)) ∙ filled-empty l more before filled ∙ ap (λ k. replicate (up k) zero-block) (sym its-width),
     )
 
     pub raise-done : (after : List (List ℕ)) → after ≡ take to before ++ (pack (map image (take count (drop from before))) ++ drop (to + up count) before) → Filled (l + 1) after × (suc (l + 1) ≤ levels n)
     raise-done after laid =
         let done = filled-more l more before filled after
-            (laid ∙ (λ i. take (above i) before ++ (pack (map image (take (its-width i) (drop (at-from i) before))) ++ drop (above i + up (its-width i)) before))) in
+        (laid ∙ (λ i. take (at-next i) before ++ (pack (map image (take (its-width i) (drop (at-from i) before))) ++ drop (at-next i + up (its-width i)) before))) in
         (subst (λ k. Filled k after) (sym (add-one l)) done, omega arith)
 
   pub filled-all : (l : ℕ) (tree : List (List ℕ)) → suc l ≡ levels n → Filled l tree → tree ≡ tree-of image bs
@@ -108,7 +108,7 @@ length-tree image bs = length-stacked image bs (levels (length bs))
 
 -- a `Vec` of that length is the tree once its items are, and its first block gives the root
 pub made-tree : (image : List ℕ → List ℕ) (bs : List (List ℕ)) (n len : ℕ) (blocks rest : List (List ℕ)) (top root : List ℕ) → length bs ≡ n → 1 ≤ n → n ≤ 4096 → len ≡ total n → blocks ≡ tree-of image bs
-  → top ≡ getD (take len (blocks ++ rest)) 0 top → root ≡ image top → (take len (blocks ++ rest) ≡ tree-of image bs) × (root ≡ root-of image bs)
+    → top ≡ getD (take len (blocks ++ rest)) 0 top → root ≡ image top → (take len (blocks ++ rest) ≡ tree-of image bs) × (root ≡ root-of image bs)
 unfolding root-of
 made-tree image bs n len blocks rest top root size least most long is first hashed =
     let its-length : length blocks ≡ len = ap length is ∙ length-tree image bs ∙ ap total size ∙ sym long in

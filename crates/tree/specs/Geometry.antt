@@ -30,9 +30,13 @@ lower n (suc l) = width n l + lower n l
 unfoldable pub total : ℕ → ℕ
 total n = lower n (levels n)
 
--- the levels lie on the tree device from block 0, the top first: what is neither level l nor below it lies before it
-unfoldable pub start : ℕ → ℕ → ℕ
-start n l = total n - lower n (suc l)
+-- how many blocks level l and the levels above it have
+abbrev pub above : ℕ → ℕ → ℕ
+above n l = total n - lower n l
+
+-- the levels lie on the tree device from block 0, the top first, so level l starts after those above it
+abbrev pub start : ℕ → ℕ → ℕ
+start n l = above n (l + 1)
 
 -- the place of data block k at level l: the number of its tree block on the tree device, and its cell there
 unfoldable pub place : ℕ → ℕ → ℕ → ℕ × ℕ

@@ -2,7 +2,7 @@
 ghost use mathlib.Core.Path.{_≡_};
 ghost use Prim.Native.Nat.{_+_, _/_, _%_, _<_, _≤_};
 ghost use Rattle.std.specs.Options.{Cases};
-ghost use Rattle.tree.specs.Geometry.{width, levels, start, total, place};
+ghost use Rattle.tree.specs.Geometry.{width, levels, above, start, total, place};
 
 // The most data blocks that a volume has.
 pub const MOST: usize = 4096;
@@ -41,12 +41,11 @@ impl Geometry {
         self.blocks
     }
 
-    // Four bits of the highest block number to a level, and one level at least.
+    // The number of levels.
     pub fn levels(&self) -> usize
         ensures { λ r. ⌜ r ≡ levels (now (self .entry) .blocks) ⌝ }
     {
-        let bits = (64 - (self.blocks - 1).leading_zeros()) as usize;
-        ((bits + 3) / 4).max(1)
+        levels_over(self.blocks)
     }
 
     // How many blocks a level has.
@@ -75,7 +74,18 @@ impl Geometry {
     pub fn total(&self) -> usize
         ensures { λ r. ⌜ r ≡ total (now (self .entry) .blocks) ⌝ }
     {
-        self.start_of(0) + self.width_of(0)
+        self.blocks_above(0)
+    }
+
+    // The place of data block `block` at a level: the tree block's number on the tree device, and the cell in it.
+    pub fn place(&self, level: usize, block: usize) -> Option<(usize, usize)>
+        ensures { λ r. ⌜ Cases r ((level < levels (now (self .entry) .blocks)) × (block < now (self .entry) .blocks) → ⊥) (λ p. (level < levels (now (self .entry) .blocks)) × (block < now (self .entry) .blocks) × (p ≡ place (now (self .entry) .blocks) level block)) ⌝ }
+    {
+        if level < self.levels() && block < self.blocks {
+            Some(self.place_of(level, block))
+        } else {
+            None
+        }
     }
 
     pub(crate) fn width_of(&self, level: usize) -> usize
@@ -89,23 +99,36 @@ impl Geometry {
         requires { ⌜ level < levels (now self .blocks) ⌝ }
         ensures { λ r. ⌜ r ≡ start (now (self .entry) .blocks) level ⌝ }
     {
-        let mut above = 0;
-        for higher in level + 1..self.levels() {
-            above += self.width_of(higher);
-        }
-        above
+        self.blocks_above(level + 1)
     }
 
-    // The place of data block `block` at a level: the tree block's number on the tree device, and the cell in it.
-    pub fn place(&self, level: usize, block: usize) -> Option<(usize, usize)>
-        ensures { λ r. ⌜ Cases r ((level < levels (now (self .entry) .blocks)) × (block < now (self .entry) .blocks) → ⊥) (λ p. (level < levels (now (self .entry) .blocks)) × (block < now (self .entry) .blocks) × (p ≡ place (now (self .entry) .blocks) level block)) ⌝ }
+    // How many blocks this level and those above it have.
+    fn blocks_above(&self, level: usize) -> usize
+        requires { ⌜ level ≤ levels (now self .blocks) ⌝ }
+        ensures { λ r. ⌜ r ≡ above (now (self .entry) .blocks) level ⌝ }
     {
-        if level < self.levels() && block < self.blocks {
-            Some(cell_of(self.start_of(level), block >> (4 * level)))
-        } else {
-            None
+        let mut sum = 0;
+        for higher in level..self.levels() {
+            sum += self.width_of(higher);
         }
+        sum
     }
+
+    fn place_of(&self, level: usize, block: usize) -> (usize, usize)
+        requires { ⌜ level < levels (now self .blocks) ⌝ ∗ ⌜ block < now self .blocks ⌝ }
+        ensures { λ r. ⌜ r ≡ place (now (self .entry) .blocks) level block ⌝ }
+    {
+        cell_of(self.start_of(level), block >> (4 * level))
+    }
+}
+
+// Four bits of the highest block number to a level, and one level at least.
+fn levels_over(blocks: usize) -> usize
+    requires { ⌜ 1 ≤ blocks ⌝ ∗ ⌜ blocks ≤ 4096 ⌝ }
+    ensures { λ r. ⌜ r ≡ levels blocks ⌝ }
+{
+    let bits = (64 - (blocks - 1).leading_zeros()) as usize;
+    ((bits + 3) / 4).max(1)
 }
 
 // Where the image of a block stands in the level above it, which starts at block `start` of the tree device: the tree block's number

@@ -59,7 +59,13 @@ fn fill<H: Hash>(hash: &H, geometry: Geometry, contents: &[[u8; 512]], tree: &mu
     lay_level(hash, contents, tree, geometry.start_of(0));
     for level in 0..geometry.levels() - 1 {
         let from = geometry.start_of(level);
-        raise_level(hash, tree, from, geometry.width_of(level), geometry.start_of(level + 1));
+        raise_level(
+            hash,
+            tree,
+            from,
+            geometry.width_of(level),
+            geometry.start_of(level + 1),
+        );
     }
 }
 

@@ -2,6 +2,5 @@
 pub mod contents;
 pub mod geometry;
 pub mod layout;
-
 #[cfg(test)]
 mod tests;

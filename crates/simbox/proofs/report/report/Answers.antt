@@ -28,7 +28,7 @@ returns g c =
     let room : length sims ≤ blocks = omega (arith, sheet .few, sheet .sims .ok .0) in
     let count : length (c .sims-sims .result .now) ≡ length sims = ap length (c .sims-sims .ensures .value) in
     let held : map sim-block sims ≡ c .split-at .result .0 .now =
-        sym (c .split-at .ensures .front ∙ (λ i. take (count i) ((c .blocks-3 .ensures ∙ c .pre) i)) ∙ volume-sims sims blocks room) in
+    sym (c .split-at .ensures .front ∙ (λ i. take (count i) ((c .blocks-3 .ensures ∙ c .pre) i)) ∙ volume-sims sims blocks room) in
     let size : c .geometry .result .blocks ≡ blocks = c .geometry .ensures ∙ c .args .contents .now .blocks .ok .0 ∙ ap length (c .pre) ∙ volume-length sims blocks room in
     let root : c .root .result ≡ root-of image (volume-of sims blocks) = c .root .ensures ∙ c .in-Continue-tree .ensures tt .layout .1 ∙ ap (root-of image) (c .pre) in
     reported sims blocks room (g .H·Hash .number) image (sheet .tray .value) (c .geometry .result .blocks) (c .kind-number .result) (c .root .result)

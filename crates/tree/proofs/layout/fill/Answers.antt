@@ -36,17 +36,19 @@ loop-level-holds g c =
     let n = c .args .geometry .blocks in
     let least = c .args .geometry .least in
     let most = c .args .geometry .most in
-    let size = c .pre .0 in
-    (filled-first (g .H·Hash .image (c .args .hash .now)) n (c .args .contents .now) size least most (c .start-of .result) (c .args .tree .now) (c .lay-level .last .tree) (c .start-of .ensures) (c .pre .1)
-    (c .lay-level .ensures), levels-least n least most)
+    let size = c .pre .0 in (
+      filled-first (g .H·Hash .image (c .args .hash .now)) n (c .args .contents .now) size least most (c .start-of .result) (c .args .tree .now) (c .lay-level .last .tree) (c .start-of .ensures) (c .pre .1)
+          (c .lay-level .ensures),
+      levels-least n least most,
+    )
 
 pub raise-level-requires : need.raise-level-requires
 raise-level-requires g c κs =
     let n = c .args .geometry .blocks in
     let more : suc (c .loop-level .level) < levels n = omega (arith, c .loop-level-test .taken, c .levels-level-end .ensures) in
     let ready = raise-ready (g .H·Hash .image (c .args .hash .now)) n (c .args .contents .now) (c .pre .0) (c .args .geometry .least) (c .args .geometry .most)
-        (c .loop-level .level) more (c .loop-level .tree) (c .loop-level .inv .0)
-        (c .start-of-from .result) (c .width-of .result) (c .start-of-in-loop-level .result) (c .start-of-from .ensures) (c .width-of .ensures) (c .start-of-in-loop-level .ensures) in
+    (c .loop-level .level) more (c .loop-level .tree) (c .loop-level .inv .0)
+    (c .start-of-from .result) (c .width-of .result) (c .start-of-in-loop-level .result) (c .start-of-from .ensures) (c .width-of .ensures) (c .start-of-in-loop-level .ensures) in
     record { apart = ready .0; room = ready .1; empty = ready .2 }
 
 pub loop-level-again : need.loop-level-again

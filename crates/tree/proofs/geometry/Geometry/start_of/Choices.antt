@@ -1,7 +1,0 @@
-use mathlib.Core.Path.{_≡_}
-use Prim.Native.Nat.{suc, _+_, _≤_}
-use Rattle.tree.specs.Geometry.{lower, levels}
-use Rattle.tree.proofs.geometry.Geometry.start_of.Given as given
-
-abbrev pub Inv-loop-higher : given.InvT-loop-higher
-Inv-loop-higher l = (l .above + lower (l .self .blocks) (suc (l .level)) ≡ lower (l .self .blocks) (l .higher)) × (l .higher ≤ levels (l .self .blocks))
