@@ -63,7 +63,7 @@ pub impl PartialEq<Identity> for Identity as IdentityPartialEq {
     ghost equals = { λ a b r. Decides r (a .digits ≡ b .digits) };
 
     fn eq(&self, other: &Identity) -> bool {
-        self.digits == other.digits
+        other.digits == self.digits
     }
 }
 
