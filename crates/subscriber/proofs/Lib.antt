@@ -7,3 +7,4 @@ pub mod Keys
 pub mod Lines
 pub mod Steps
 pub mod Sheets
+pub mod Listing

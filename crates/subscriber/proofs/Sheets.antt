@@ -27,18 +27,18 @@ use Rattle.subscriber.specs.Plain.{entry-of}
 use Rattle.subscriber.specs.Sheet.{Draft, Whole, whole-of, whole, allowed, add, next, after-line, at-line, read-from, sheet-of}
 use Rattle.subscriber.specs.Text.{lines}
 
-err-not-ok : {A E : Type 0} (e : E) (x : A) → _≡_ {A = Result A E} (Err e) (Ok x) → ⊥
+pub err-not-ok : {A E : Type 0} (e : E) (x : A) → _≡_ {A = Result A E} (Err e) (Ok x) → ⊥
 err-not-ok e x p = let z : _≡_ {A = ℕ} 0 1 = cc in omega arith
 
-same-ok : {A E : Type 0} (x y : A) → _≡_ {A = Result A E} (Ok x) (Ok y) → x ≡ y
+pub same-ok : {A E : Type 0} (x y : A) → _≡_ {A = Result A E} (Ok x) (Ok y) → x ≡ y
 same-ok x y p = cc
 
 -- what was made was made from something
-then-made : {A B E : Type 0} (r : Result A E) (f : A → Result B E) (y : B) → then-ok r f ≡ Ok y → (x : A) × (r ≡ Ok x) × (f x ≡ Ok y)
+pub then-made : {A B E : Type 0} (r : Result A E) (f : A → Result B E) (y : B) → then-ok r f ≡ Ok y → (x : A) × (r ≡ Ok x) × (f x ≡ Ok y)
 then-made (Ok x) f y p = (x, refl, p)
 then-made (Err e) f y p = absurd (err-not-ok e y p)
 
-with-made : {A B E : Type 0} (r : Result A E) (f : A → B) (y : B) → with-ok f r ≡ Ok y → (x : A) × (r ≡ Ok x) × (f x ≡ y)
+pub with-made : {A B E : Type 0} (r : Result A E) (f : A → B) (y : B) → with-ok f r ≡ Ok y → (x : A) × (r ≡ Ok x) × (f x ≡ y)
 with-made (Ok x) f y p = (x, refl, same-ok _ _ p)
 with-made (Err e) f y p = absurd (err-not-ok e y p)
 

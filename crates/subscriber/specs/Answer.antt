@@ -20,6 +20,7 @@ use Rattle.subscriber.specs.declared.sheet.Sheet.{Sheet}
 use Rattle.subscriber.specs.Plain.{entry-of}
 use Rattle.subscriber.specs.Sheet.{Draft, Whole}
 
+-- the headers and SIMs that were read so far
 abbrev pub draft-of : Headers → List Sim → Draft
 draft-of h ss = record {
   tray = mapped (λ t. t .value) (h .tray);

@@ -78,16 +78,18 @@ pub data Said : Type 0 where
 abbrev pub counted : Keyword → ℕ → List (List ℕ) → Result Said Cause → Result Said Cause
 counted k n ws r = cond (eqb (length ws) n) r (Err (cause.WordCount k))
 
+-- a hash by its name, with its key
 abbrev pub hash-in : List ℕ → List ℕ → Result HashChoice Cause
 hash-in name key = cond (sameBytes name (codes "siphash")) (with-ok SipHash (key-in key)) (Err cause.UnknownHash)
 
+-- a SIM: the first of its three words that is wrong gives the cause
 abbrev pub sim-in : List ℕ → List ℕ → List ℕ → Result Said Cause
 sim-in i k q =
     then-ok (identity-in i) (λ digits.
     then-ok (number-in number.KeyIndex k) (λ key.
     with-ok (λ sequence. sim-is (digits, key, sequence)) (number-in number.Sequence q)))
 
--- the words after a keyword
+-- what a line says by its keyword and the words after it
 abbrev pub after : Option Keyword → List (List ℕ) → Result Said Cause
 after None ws = Err cause.UnknownWord
 after (Some keyword.Tray) ws = counted keyword.Tray 1 ws (with-ok tray-is (number-in number.Tray (getD ws 0 [])))
@@ -95,6 +97,7 @@ after (Some keyword.Hash) ws = counted keyword.Hash 2 ws (with-ok hash-is (hash-
 after (Some keyword.Blocks) ws = counted keyword.Blocks 1 ws (with-ok blocks-are (number-in number.Blocks (getD ws 0 [])))
 after (Some keyword.Sim) ws = counted keyword.Sim 3 ws (sim-in (getD ws 0 []) (getD ws 1 []) (getD ws 2 []))
 
+-- a line without a word says nothing
 abbrev pub said : List (List ℕ) → Result Said Cause
 said [] = Ok nothing
 said (w ∷ ws) = after (keyword-of w) ws

@@ -13,13 +13,14 @@ use Rattle.subscriber.specs.declared.cause.Cause.the-variants.{NotANumber, Out
 use Rattle.subscriber.specs.declared.cause.Number.{Number}
 use Rattle.subscriber.specs.declared.cause.Number.the-variants.{Tray, Blocks, KeyIndex, Sequence}
 
--- the least and the largest number of each kind
+-- the least number of each kind
 abbrev pub least : Number → ℕ
 least Tray = 1
 least Blocks = 1
 least KeyIndex = 0
 least Sequence = 0
 
+-- the largest
 abbrev pub most : Number → ℕ
 most Tray = 4294967295
 most Blocks = 4096

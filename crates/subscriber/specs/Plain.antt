@@ -6,9 +6,11 @@ use Rattle.subscriber.specs.declared.item.Item.{Item}
 use Rattle.subscriber.specs.declared.item.Item.the-variants as item
 use Rattle.subscriber.specs.declared.sim.Sim.{Sim}
 
+-- a SIM as a sheet has it
 abbrev pub entry-of : Sim → Entry
 entry-of s = (s .identity .digits, s .key, s .sequence .value)
 
+-- what a line says
 abbrev pub plain : Item → Said
 plain item.Nothing = nothing
 plain (item.Tray t) = tray-is (t .value)

@@ -1,8 +1,8 @@
 // The headers of a sheet as they come in, and what stops the reading.
 ghost use mathlib.Core.Path.{_≡_};
 ghost use Rattle.subscriber.specs.declared.headers.Fault.the-variants as fault;
+use crate::block_count::BlockCount;
 use crate::cause::Cause;
-use crate::tray::BlockCount;
 use crate::tray::HashChoice;
 use crate::tray::TrayNumber;
 use std::alloc::AllocError;

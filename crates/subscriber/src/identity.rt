@@ -4,6 +4,7 @@ ghost use mathlib.Core.Path.{_≡_};
 ghost use Prim.Native.Nat.{ℕ, _≤_, _<_};
 ghost use Rattle.std.specs.Options.{Cases as BySome};
 ghost use Rattle.subscriber.specs.Identity.{is-padded, is-identity, padded, unpadded};
+ghost use Rattle.std.specs.Orderings.{Decides};
 ghost use Rattle.std.specs.declared.option.Option.the-variants.{Some};
 use crate::scan::Class;
 use crate::scan::is_zero;
@@ -11,7 +12,7 @@ use crate::scan::run;
 use std::fmt;
 
 // 6 to 20 decimal digits, held as they stand in a block: in ASCII, zeros after the last.
-#[derive(Clone, Copy, PartialEq, Eq, Debug)]
+#[derive(Clone, Copy, Eq, Debug)]
 pub struct Identity {
     digits: [u8; 20],
     ghost ok: { is-padded digits ≡ true },
@@ -55,6 +56,14 @@ impl Identity {
         ensures { λ r. ⌜ r ≡ now (self .entry) .digits ⌝ }
     {
         self.digits
+    }
+}
+
+pub impl PartialEq<Identity> for Identity as IdentityPartialEq {
+    ghost equals = { λ a b r. Decides r (a .digits ≡ b .digits) };
+
+    fn eq(&self, other: &Identity) -> bool {
+        other.digits == self.digits
     }
 }
 

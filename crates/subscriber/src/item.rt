@@ -8,6 +8,7 @@ ghost use Rattle.subscriber.specs.Items.{keyword-of, with-ok, identity-in, has
 ghost use Rattle.subscriber.specs.Plain.{plain};
 ghost use Rattle.subscriber.specs.Text.{words};
 ghost use Rattle.subscriber.specs.declared.cause.Keyword.the-variants as keyword;
+use crate::block_count::BlockCount;
 use crate::cause::Cause;
 use crate::cause::Keyword;
 use crate::cause::Number;
@@ -18,7 +19,6 @@ use crate::sequence::Sequence;
 use crate::sim::Sim;
 use crate::text::cut_word;
 use crate::text::word_count;
-use crate::tray::BlockCount;
 use crate::tray::HashChoice;
 use crate::tray::TrayNumber;
 

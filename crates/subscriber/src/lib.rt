@@ -1,5 +1,6 @@
 // The SIMs of a tray: one SIM as one 512-byte block and back, and the sheet that lists them.
 pub mod block;
+pub mod block_count;
 pub mod cause;
 mod headers;
 mod hex;

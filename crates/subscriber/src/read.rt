@@ -1,8 +1,9 @@
 // The reader of a sheet.
 ghost use mathlib.Core.Path.{_≡_};
 ghost use Rattle.std.specs.Of.Vec.{vec-items};
-ghost use Rattle.subscriber.specs.Answer.{draft-of, Room, Answers};
-ghost use Rattle.subscriber.specs.Sheet.{whole, at-line, sheet-of};
+ghost use Rattle.std.specs.Vec.{made};
+ghost use Rattle.subscriber.specs.Answer.{draft-of, Room, plain-sheet, Answers};
+ghost use Rattle.subscriber.specs.Sheet.{whole, at-line, sheet-of, Listed};
 use crate::cause::SheetError;
 use crate::headers::Fault;
 use crate::headers::Headers;
@@ -26,7 +27,8 @@ fn finish(headers: Headers, sims: Vec<Sim>, line: usize) -> Result<Sheet, SheetE
 
 // Reads a sheet, or says which line is refused and why.
 pub fn read_sheet(heap: Global, text: &[u8]) -> Result<Sheet, SheetError>
-    ensures { λ r. ⌜ Answers (sheet-of (now (text .entry))) r ⌝ }
+    ensures answer { λ r. ⌜ Answers (sheet-of (now (text .entry))) r ⌝ }
+    ensures listed { λ r. ⌜ made r (λ s. Listed (now (text .entry)) (plain-sheet s)) ⌝ }
 {
     let mut headers = Headers {
         tray: None,

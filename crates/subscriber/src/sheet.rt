@@ -3,8 +3,8 @@ ghost use mathlib.Core.Path.{_≡_};
 ghost use Prim.Native.Nat.{_≤_};
 ghost use lib.ListN.{length};
 ghost use Rattle.std.specs.Of.Vec.{vec-len, vec-items};
+use crate::block_count::BlockCount;
 use crate::sim::Sim;
-use crate::tray::BlockCount;
 use crate::tray::HashChoice;
 use crate::tray::TrayNumber;
 

@@ -9,6 +9,7 @@ ghost use Rattle.subscriber.specs.Answer.{draft-of, whole-with, Stepped};
 ghost use Rattle.subscriber.specs.Items.{with-ok, tray-is, hash-is, blocks-are};
 ghost use Rattle.subscriber.specs.Plain.{entry-of, plain};
 ghost use Rattle.subscriber.specs.Sheet.{allowed, whole, next, add, after-line};
+use crate::block_count::BlockCount;
 use crate::cause::Cause;
 use crate::cause::Header;
 use crate::headers::Fault;
@@ -19,7 +20,6 @@ use crate::headers::Heading;
 use crate::item::Item;
 use crate::item::read_line;
 use crate::sim::Sim;
-use crate::tray::BlockCount;
 use crate::tray::HashChoice;
 use crate::tray::TrayNumber;
 

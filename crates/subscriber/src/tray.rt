@@ -1,4 +1,4 @@
-// The headers of a sheet.
+// The number of a tray, and its hash.
 ghost use mathlib.Core.Path.{_≡_};
 ghost use Prim.Native.Nat.{_≤_};
 
@@ -19,31 +19,6 @@ impl TrayNumber {
 
     // The number itself.
     pub fn value(self) -> u32
-        ensures { λ r. ⌜ r ≡ self .value ⌝ }
-    {
-        self.value
-    }
-}
-
-// How many blocks a tray has, 1 to 4096.
-#[derive(Clone, Copy, PartialEq, Eq, Debug)]
-pub struct BlockCount {
-    value: u16,
-    ghost low: { 1 ≤ value },
-    ghost high: { value ≤ 4096 },
-}
-
-impl BlockCount {
-    pub(crate) fn of(value: u16) -> BlockCount
-        requires low { ⌜ 1 ≤ value ⌝ }
-        requires high { ⌜ value ≤ 4096 ⌝ }
-        ensures { λ r. ⌜ r .value ≡ value ⌝ }
-    {
-        BlockCount { value }
-    }
-
-    // The number itself.
-    pub fn value(self) -> u16
         ensures { λ r. ⌜ r ≡ self .value ⌝ }
     {
         self.value

@@ -5,6 +5,7 @@ use Rattle.std.specs.Of.Vec.{vec-items}
 use Rattle.subscriber.specs.Answer.{draft-of, Answers}
 use Rattle.subscriber.specs.Sheet.{read-from}
 use Rattle.subscriber.specs.Text.{lines}
+use Rattle.subscriber.proofs.Listing.{answer-listed}
 use Rattle.subscriber.proofs.Sheets.{room-more, read-more, read-first, room-first, read-last}
 use Rattle.subscriber.proofs.read.read_sheet.Needs as need
 
@@ -27,4 +28,5 @@ pub returns : need.returns
 returns c =
     let none = eqb-true _ 0 (sym (c .loop-rest-test .ensures tt)) in
     let last = read-last (c .args .text .now) (c .loop-rest .rest .now) (c .loop-rest .line) _ (c .loop-rest .inv .0) none in
-    subst (λ m. Answers m (c .finish .result)) last (c .finish .ensures)
+    let answer = subst (λ m. Answers m (c .finish .result)) last (c .finish .ensures) in
+    record { answer = answer; listed = answer-listed (c .args .text .now) (c .finish .result) answer }
