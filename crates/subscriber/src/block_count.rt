@@ -20,7 +20,7 @@ impl BlockCount {
     }
 
     // The number itself.
-    pub fn value(self) -> u16
+    pub(crate) fn value(self) -> u16
         ensures { λ r. ⌜ r ≡ self .value ⌝ }
     {
         self.value

@@ -2,7 +2,6 @@
 ghost use mathlib.Core.Path.{_≡_};
 ghost use Rattle.subscriber.specs.declared.cause.SheetError.the-variants as error;
 use std::alloc::AllocError;
-use std::alloc::Refused;
 
 // A line that stands once, before the first SIM.
 #[derive(Clone, Copy, PartialEq, Eq, Debug)]
@@ -66,14 +65,6 @@ pub impl From<AllocError> for SheetError as SheetErrorFromAlloc {
     ghost converts = { λ _ r. r ≡ error.NoMemory };
 
     fn from(_error: AllocError) -> SheetError {
-        SheetError::NoMemory
-    }
-}
-
-pub impl<T: Drop> From<Refused<T>> for SheetError as SheetErrorFromRefused {
-    ghost converts = { λ _ r. r ≡ error.NoMemory };
-
-    fn from(_refused: Refused<T>) -> SheetError {
         SheetError::NoMemory
     }
 }

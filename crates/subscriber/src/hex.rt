@@ -19,7 +19,7 @@ fn hex_digit(b: u8) -> Option<u8>
 }
 
 // 16 bytes, written as 32 hexadecimal digits.
-pub fn hex_key(word: &[u8]) -> Result<[u8; 16], Cause>
+pub(crate) fn hex_key(word: &[u8]) -> Result<[u8; 16], Cause>
     ensures { λ r. ⌜ r ≡ key-in (now (word .entry)) ⌝ }
 {
     if word.len() != 32 {

@@ -33,7 +33,7 @@ impl Identity {
     }
 
     // The identity that these 20 bytes of a block hold, or `None` where they hold none.
-    pub fn from_padded(digits: [u8; 20]) -> Option<Identity>
+    pub(crate) fn from_padded(digits: [u8; 20]) -> Option<Identity>
         ensures { λ r. ⌜ BySome r (is-padded digits ≡ false) (λ i. (is-padded digits ≡ true) × (i .digits ≡ digits)) ⌝ }
     {
         let n = run(&digits, Class::Digit);
@@ -44,7 +44,7 @@ impl Identity {
     }
 
     // The digits alone, 6 to 20 of them.
-    pub fn digits(&self) -> &[u8]
+    pub(crate) fn digits(&self) -> &[u8]
         ensures { λ r. ⌜ now r ≡ unpadded (now (self .entry) .digits) ⌝ }
     {
         let n = run(&self.digits, Class::Digit);
@@ -52,7 +52,7 @@ impl Identity {
     }
 
     // The 20 bytes of a block: the digits, and zeros after the last.
-    pub fn padded_digits(&self) -> [u8; 20]
+    pub(crate) fn padded_digits(&self) -> [u8; 20]
         ensures { λ r. ⌜ r ≡ now (self .entry) .digits ⌝ }
     {
         self.digits

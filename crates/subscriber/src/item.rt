@@ -166,7 +166,7 @@ fn read_words(line: &[u8]) -> Result<Item, Cause>
 }
 
 // What a line says.
-pub fn read_line(line: &[u8]) -> Result<Item, Cause>
+pub(crate) fn read_line(line: &[u8]) -> Result<Item, Cause>
     ensures { λ r. ⌜ with-ok plain r ≡ line-says (now (line .entry)) ⌝ }
 {
     if is_comment(line) {

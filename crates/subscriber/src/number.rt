@@ -11,7 +11,7 @@ use crate::scan::run;
 
 impl Number {
     // The least number of its kind.
-    pub fn least(self) -> u64
+    pub(crate) fn least(self) -> u64
         ensures { λ r. ⌜ r ≡ least self ⌝ }
     {
         match self {
@@ -21,7 +21,7 @@ impl Number {
     }
 
     // The largest number of its kind.
-    pub fn most(self) -> u64
+    pub(crate) fn most(self) -> u64
         ensures value { λ r. ⌜ r ≡ most self ⌝ }
         ensures small { λ r. ⌜ r < 2 ^ 48 ⌝ }
     {
@@ -60,7 +60,7 @@ fn is_decimal(word: &[u8]) -> bool
 }
 
 // A word as a number of this kind.
-pub fn number(word: &[u8], what: Number) -> Result<u64, Cause>
+pub(crate) fn number(word: &[u8], what: Number) -> Result<u64, Cause>
     ensures value { λ r. ⌜ r ≡ number-in what (now (word .entry)) ⌝ }
     ensures ranged { λ r. ⌜ made r (λ n. (least what ≤ n) × (n ≤ most what)) ⌝ }
 {

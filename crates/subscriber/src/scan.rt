@@ -32,7 +32,7 @@ impl Class {
 }
 
 // How many bytes at the front are of this class.
-pub fn run(text: &[u8], class: Class) -> usize
+pub(crate) fn run(text: &[u8], class: Class) -> usize
     ensures value { λ r. ⌜ r ≡ leading (belongs class) (now (text .entry)) ⌝ }
     ensures within { λ r. ⌜ r ≤ length (now (text .entry)) ⌝ }
 {
@@ -44,7 +44,7 @@ pub fn run(text: &[u8], class: Class) -> usize
 }
 
 // Whether each byte is zero.
-pub fn is_zero(bytes: &[u8]) -> bool
+pub(crate) fn is_zero(bytes: &[u8]) -> bool
     ensures { λ r. ⌜ r ≡ all-zero (now (bytes .entry)) ⌝ }
 {
     for b in bytes {

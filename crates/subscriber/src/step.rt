@@ -37,7 +37,7 @@ fn allow(header: Header, there: bool, sims: usize) -> Result<(), Cause>
 }
 
 // All of the headers, or the first that is missing.
-pub fn heading(headers: Headers) -> Result<Heading, Cause>
+pub(crate) fn heading(headers: Headers) -> Result<Heading, Cause>
     ensures { λ r. ⌜ ((ss : List Sim) → with-ok (whole-with ss) r ≡ whole (draft-of headers ss)) ⌝ }
 {
     let Some(tray) = headers.tray else {
@@ -114,7 +114,11 @@ fn take_item(headers: Headers, sims: &mut Vec<Sim>, item: Item) -> Result<Header
 }
 
 // Takes one line more.
-pub fn take_line(headers: Headers, sims: &mut Vec<Sim>, line: &[u8]) -> Result<Headers, Fault>
+pub(crate) fn take_line(
+    headers: Headers,
+    sims: &mut Vec<Sim>,
+    line: &[u8],
+) -> Result<Headers, Fault>
     ensures { λ r. ⌜ Stepped (after-line (draft-of headers (vec-items (now (sims .entry)))) (now (line .entry))) r (vec-items (now (sims .exit))) ⌝ }
 {
     let item = read_line(line)?;

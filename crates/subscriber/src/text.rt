@@ -15,7 +15,7 @@ pub struct Cut<'a> {
 }
 
 // The first line, without its newline.
-pub fn cut_line(text: &[u8]) -> Cut<'_>
+pub(crate) fn cut_line(text: &[u8]) -> Cut<'_>
     requires { ⌜ 0 < length (now text) ⌝ }
     ensures first { λ r. ⌜ lines (now (text .entry)) ≡ now (r .piece) ∷ lines (now (r .rest)) ⌝ }
     ensures shorter { λ r. ⌜ length (now (r .rest)) < length (now (text .entry)) ⌝ }
@@ -32,7 +32,7 @@ pub fn cut_line(text: &[u8]) -> Cut<'_>
 }
 
 // The first word, which is empty where there is none.
-pub fn cut_word(line: &[u8]) -> Cut<'_>
+pub(crate) fn cut_word(line: &[u8]) -> Cut<'_>
     ensures first { λ r. ⌜ now (r .piece) ≡ getD (words (now (line .entry))) 0 [] ⌝ }
     ensures others { λ r. ⌜ words (now (r .rest)) ≡ drop 1 (words (now (line .entry))) ⌝ }
     ensures shorter { λ r. ⌜ length (now (r .piece)) + length (now (r .rest)) ≤ length (now (line .entry)) ⌝ }
@@ -43,7 +43,7 @@ pub fn cut_word(line: &[u8]) -> Cut<'_>
 }
 
 // How many words the line has.
-pub fn word_count(line: &[u8]) -> usize
+pub(crate) fn word_count(line: &[u8]) -> usize
     ensures { λ r. ⌜ r ≡ length (words (now (line .entry))) ⌝ }
 {
     let mut n = 0;

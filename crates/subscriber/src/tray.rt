@@ -18,7 +18,7 @@ impl TrayNumber {
     }
 
     // The number itself.
-    pub fn value(self) -> u32
+    pub(crate) fn value(self) -> u32
         ensures { λ r. ⌜ r ≡ self .value ⌝ }
     {
         self.value
