@@ -30,6 +30,7 @@ pub enum Number {
     Sequence,
 }
 
+// What is wrong with a line.
 #[derive(Clone, Copy, PartialEq, Eq, Debug)]
 pub enum Cause {
     // The first word is none of `tray`, `hash`, `blocks` and `sim`.
@@ -62,6 +63,7 @@ pub enum SheetError {
     NoMemory,
 }
 
+// Want of memory, from a call that gives nothing back.
 pub impl From<AllocError> for SheetError as SheetErrorFromAlloc {
     ghost converts = { λ _ r. r ≡ error.NoMemory };
 
@@ -70,6 +72,7 @@ pub impl From<AllocError> for SheetError as SheetErrorFromAlloc {
     }
 }
 
+// Want of memory, from a call that gives its value back.
 pub impl<T: Drop> From<Refused<T>> for SheetError as SheetErrorFromRefused {
     ghost converts = { λ _ r. r ≡ error.NoMemory };
 

@@ -5,7 +5,6 @@ use crate::block_count::BlockCount;
 use crate::cause::Cause;
 use crate::tray::HashChoice;
 use crate::tray::TrayNumber;
-use std::alloc::AllocError;
 use std::alloc::Refused;
 
 // The headers that were read so far.
@@ -36,14 +35,6 @@ pub impl From<Cause> for Fault as FaultFromCause {
 
     fn from(cause: Cause) -> Fault {
         Fault::Refused(cause)
-    }
-}
-
-pub impl From<AllocError> for Fault as FaultFromAlloc {
-    ghost converts = { λ _ r. r ≡ fault.NoMemory };
-
-    fn from(_error: AllocError) -> Fault {
-        Fault::NoMemory
     }
 }
 
