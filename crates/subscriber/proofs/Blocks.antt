@@ -1,13 +1,13 @@
 -- A SIM is what its block says: the fields of a block, and SIMs with the same fields.
-use mathlib.Core.Bool.{Bool, true, Bool-set}
+use mathlib.Core.Bool.{true, Bool-set}
 use mathlib.Core.HLevel.{isProp→PathP}
-use mathlib.Core.List.{List, [], _∷_, _++_}
+use mathlib.Core.List.{List, _++_}
 use mathlib.Core.Path.{_≡_, refl, sym, ap, _∙_}
-use Prim.Native.Nat.{ℕ, _+_, _*_, _/_, _%_, _^_, _<_}
+use Prim.Native.Nat.{ℕ, _+_, _*_, _^_, _<_}
 use native.Mathlib.Bridge.{le-prop}
 use native.Mathlib.Omega.{arith}
 use lib.ListN.{length, getD, take, drop, replicate}
-use Rattle.std.proofs.shelf.Lists.{take-at, drop-at, getD-drop, append-assoc}
+use Rattle.std.proofs.shelf.Lists.{take-at, drop-at, getD-drop, append-assoc, length-append, length-replicate}
 use Rattle.subscriber.specs.Identity.{is-padded}
 use Rattle.subscriber.specs.Block.{little-endian, sim-head, sim-block}
 use Rattle.subscriber.specs.declared.identity.Identity.{Identity}
@@ -49,3 +49,13 @@ module _ (s : Sim) (block : List ℕ) (e : sim-block s ≡ block) where
 
   pub block-sequence : getD block 24 0 + getD block 25 0 * 256 + getD block 26 0 * 65536 + getD block 27 0 * 16777216 + getD block 28 0 * 4294967296 + getD block 29 0 * 1099511627776 ≡ s .sequence .value
   block-sequence = omega (arith, at 4, at 5, at 6, at 7, at 8, at 9, s .sequence .small)
+
+-- no two SIMs have one block
+pub same-block : (s t : Sim) → sim-block s ≡ sim-block t → s ≡ t
+same-block s t e =
+    let b = sim-block t in
+    same-sim s t (sym (block-digits s b e) ∙ block-digits t b refl) (sym (block-key s b e) ∙ block-key t b refl) (sym (block-sequence s b e) ∙ block-sequence t b refl)
+
+pub block-length : (s : Sim) → length (sim-block s) ≡ 512
+unfolding sim-block sim-head
+block-length s = simp length-append (omega (arith, padded-length (s .identity .digits) (s .identity .ok), length-replicate {A = ℕ} 480 0))

@@ -1,8 +1,8 @@
 -- Where a text is cut into lines, and a line into words.
 use mathlib.Core.Bool.{Bool, true, false, not, cond}
-use mathlib.Core.List.{List, [], _∷_, _++_}
+use mathlib.Core.List.{List, [], _∷_}
 use mathlib.Core.Path.{_≡_, refl, sym, ap, subst, _∙_}
-use Prim.Native.Nat.{ℕ, zero, suc, _+_, _-_, _<_}
+use Prim.Native.Nat.{ℕ, suc, _+_, _-_, _<_}
 use native.Mathlib.Numerals.{one-add, add-one}
 use native.Mathlib.Omega.{arith}
 use lib.Dec.{eqb}
@@ -10,7 +10,7 @@ use lib.ListN.{length, getD, take, drop}
 use Rattle.std.proofs.shelf.Lists.{drop-all, drop-drop, nil-from-length, take-rest, length-drop}
 use Rattle.std.proofs.shelf.Tests.{cond-false}
 use Rattle.std.specs.shelf.Lists.{leading}
-use Rattle.subscriber.specs.Scan.{blank, belongs}
+use Rattle.subscriber.specs.Scan.{blank}
 use Rattle.subscriber.specs.Text.{onto-first, lines, begins, words}
 
 abbrev inline : ℕ → Bool

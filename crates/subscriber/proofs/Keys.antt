@@ -1,13 +1,13 @@
 -- A key of hexadecimal digits, two by two.
-use mathlib.Core.Bool.{true, false, cond, _&&_}
+use mathlib.Core.Bool.{false, _&&_}
 use mathlib.Core.List.{List, [], _∷_, _++_}
-use mathlib.Core.Path.{_≡_, refl, sym, ap, _∙_}
+use mathlib.Core.Path.{_≡_, sym, ap, _∙_}
 use Prim.Native.Nat.{ℕ, _+_, _*_, _≤_, _<_}
 use native.Mathlib.Omega.{arith}
-use lib.Dec.{eqb, ltb}
+use lib.Dec.{ltb}
 use lib.ListN.{length, getD, take, drop, set}
 use Rattle.std.proofs.shelf.Lists.{drop-more, drop-all, take-all, take-more-set, append-assoc, append-nil}
-use Rattle.std.proofs.shelf.Tests.{and-left, and-right, and-from, lt-ltb, le-ltb, eq-eqb, ne-eqb, cond-true, cond-false}
+use Rattle.std.proofs.shelf.Tests.{and-left, and-right, lt-ltb, le-ltb, eq-eqb, ne-eqb, cond-true, cond-false}
 use Rattle.std.specs.Text.{digitValue}
 use Rattle.std.specs.declared.result.Result.the-variants.{Ok, Err}
 use Rattle.subscriber.specs.Items.{all-hex, hex-bytes, key-in}

@@ -23,7 +23,7 @@ use Rattle.subscriber.specs.declared.cause.SheetError.{SheetError}
 use Rattle.subscriber.specs.declared.sheet.Sheet.{Sheet}
 use Rattle.subscriber.specs.Answer.{Answers, plain-sheet}
 use Rattle.subscriber.specs.Plain.{entry-of}
-use Rattle.subscriber.specs.Items.{Entry, Said, nothing, tray-is, hash-is, blocks-are, sim-is, with-ok, then-ok, line-says}
+use Rattle.subscriber.specs.Items.{Entry, Said, nothing, tray-is, hash-is, blocks-are, sim-is, line-says}
 use Rattle.subscriber.specs.Sheet.{Draft, Whole, empty, whole-of, whole, allowed, add, next, after-line, at-line, read-from, sheet-of, picked, gathered, a-tray, a-hash, a-count, a-sim, Listed}
 use Rattle.subscriber.specs.Text.{lines}
 use Rattle.subscriber.proofs.Sheets.{err-not-ok, same-ok, then-made, with-made}

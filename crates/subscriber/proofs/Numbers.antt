@@ -1,10 +1,10 @@
 -- Decimal numbers, digit by digit, and in their range.
-use mathlib.Core.Bool.{true, false, cond, _&&_}
+use mathlib.Core.Bool.{true, false}
 use mathlib.Core.List.{List, [], _∷_}
-use mathlib.Core.Path.{_≡_, refl, sym, ap, _∙_}
+use mathlib.Core.Path.{_≡_, sym, ap, _∙_}
 use Prim.Native.Nat.{ℕ, _+_, _-_, _*_, _≤_, _<_}
 use native.Mathlib.Omega.{arith}
-use lib.Dec.{leb, ltb, eqb}
+use lib.Dec.{leb, eqb}
 use lib.ListN.{length, getD, drop}
 use Rattle.std.proofs.shelf.Lists.{at-drop-more}
 use Rattle.std.proofs.shelf.Tests.{and-left, and-right, and-from, lt-leb, le-leb, lt-ltb, le-ltb, cond-true, cond-false}

@@ -1,15 +1,14 @@
 -- Zeros, and the identity as text and as 20 bytes.
-use mathlib.Core.Bool.{Bool, true, false, cond, _&&_}
+use mathlib.Core.Bool.{Bool, true, false, _&&_}
 use mathlib.Core.List.{List, [], _∷_, _++_}
 use mathlib.Core.Path.{_≡_, refl, sym, ap, _∙_}
 use Prim.Native.Nat.{ℕ, zero, suc, _+_, _-_, _≤_, _<_}
 use native.Mathlib.Omega.{arith}
 use lib.Dec.{eqb, leb}
-use lib.ListN.{length, getD, take, drop, replicate}
+use lib.ListN.{length, getD, drop, replicate}
 use Rattle.std.proofs.shelf.Lists.{at-drop-more, drop-at, length-append, length-replicate}
 use Rattle.std.proofs.shelf.Tests.{eq-eqb, ne-eqb, le-leb, lt-leb, and-left, and-right, and-from, and-parts, eqb-true}
 use Rattle.std.specs.Text.{asciiDigit}
-use Rattle.std.specs.shelf.Lists.{leading}
 use Rattle.subscriber.specs.Scan.{all-zero}
 use Rattle.subscriber.specs.Identity.{digit-run, is-padded, is-identity, padded}
 

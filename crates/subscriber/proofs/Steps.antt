@@ -1,10 +1,9 @@
 -- One line more of a sheet.
-use mathlib.Core.Bool.{Bool, true, false, cond}
+use mathlib.Core.Bool.{Bool}
 use mathlib.Core.List.{List, [], _∷_, _++_, map}
-use mathlib.Core.Path.{_≡_, refl, sym, ap, _∙_}
+use mathlib.Core.Path.{_≡_, refl, _∙_}
 use Prim.Native.Nat.{ℕ, _≤_, _<_}
 use native.Mathlib.Omega.{arith}
-use lib.Dec.{ltb}
 use lib.ListN.{length}
 use Rattle.std.proofs.shelf.Lists.{length-map, map-push}
 use Rattle.std.proofs.shelf.Tests.{cond-true, cond-false, lt-ltb, le-ltb}
@@ -20,9 +19,9 @@ use Rattle.subscriber.specs.declared.sim.Sim.{Sim}
 use Rattle.subscriber.specs.declared.headers.Heading.{Heading}
 use Rattle.subscriber.specs.declared.headers.Headers.{Headers}
 use Rattle.subscriber.specs.Answer.{draft-of, whole-with}
-use Rattle.subscriber.specs.Items.{Entry, with-ok, then-ok}
+use Rattle.subscriber.specs.Items.{with-ok}
 use Rattle.subscriber.specs.Plain.{entry-of}
-use Rattle.subscriber.specs.Sheet.{Draft, Whole, allowed, whole, add}
+use Rattle.subscriber.specs.Sheet.{Draft, allowed, whole, add}
 
 pub is-mapped : {A B : Type 0} (f : A → B) (o : Option A) → isSome (mapped f o) ≡ isSome o
 is-mapped f None = refl

@@ -1,6 +1,4 @@
 -- What the code reads from a line, in plain numbers.
-use mathlib.Core.List.{List}
-use Prim.Native.Nat.{ℕ}
 use Rattle.subscriber.specs.Items.{Entry, Said, nothing, tray-is, hash-is, blocks-are, sim-is}
 use Rattle.subscriber.specs.declared.item.Item.{Item}
 use Rattle.subscriber.specs.declared.item.Item.the-variants as item

@@ -29,6 +29,7 @@ pub enum Number {
     Sequence,
 }
 
+// What is wrong with a line.
 #[derive(Clone, Copy, PartialEq, Eq, Debug)]
 pub enum Cause {
     // The first word is none of `tray`, `hash`, `blocks` and `sim`.
@@ -61,6 +62,7 @@ pub enum SheetError {
     NoMemory,
 }
 
+// Want of memory, from a call that gives nothing back.
 pub impl From<AllocError> for SheetError as SheetErrorFromAlloc {
     ghost converts = { λ _ r. r ≡ error.NoMemory };
 

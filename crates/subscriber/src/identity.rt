@@ -1,7 +1,7 @@
 // The identity of a SIM: an IMSI or an ICCID.
 ghost use mathlib.Core.Bool.{true, false};
 ghost use mathlib.Core.Path.{_≡_};
-ghost use Prim.Native.Nat.{ℕ, _≤_, _<_};
+ghost use Prim.Native.Nat.{_<_};
 ghost use Rattle.std.specs.Options.{Cases as BySome};
 ghost use Rattle.subscriber.specs.Identity.{is-padded, is-identity, padded, unpadded};
 ghost use Rattle.std.specs.Orderings.{Decides};
@@ -59,6 +59,7 @@ impl Identity {
     }
 }
 
+// Two identities are the same where their digits are.
 pub impl PartialEq<Identity> for Identity as IdentityPartialEq {
     ghost equals = { λ a b r. Decides r (a .digits ≡ b .digits) };
 

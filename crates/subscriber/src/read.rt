@@ -1,5 +1,4 @@
 // The reader of a sheet.
-ghost use mathlib.Core.Path.{_≡_};
 ghost use Rattle.std.specs.Of.Vec.{vec-items};
 ghost use Rattle.std.specs.Vec.{made};
 ghost use Rattle.subscriber.specs.Answer.{draft-of, Room, plain-sheet, Answers};

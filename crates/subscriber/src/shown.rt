@@ -8,6 +8,7 @@ use crate::cause::SheetErrorDebug;
 use std::error::Error;
 use std::fmt;
 
+// The word of the header.
 pub impl fmt::Display for Header as HeaderDisplay {
     fn fmt<W: fmt::Write>(&self, f: &mut fmt::Formatter<W>) -> fmt::Result {
         f.write_str(
@@ -34,6 +35,7 @@ pub impl fmt::Display for Keyword as KeywordDisplay {
     }
 }
 
+// What the number is called.
 pub impl fmt::Display for Number as NumberDisplay {
     fn fmt<W: fmt::Write>(&self, f: &mut fmt::Formatter<W>) -> fmt::Result {
         f.write_str(
@@ -54,6 +56,7 @@ fn out_of_range<W: fmt::Write>(f: &mut fmt::Formatter<W>, number: Number) -> fmt
     write!(f, "{number} out of range ({least} to {most})")
 }
 
+// The cause, without its line.
 pub impl fmt::Display for Cause as CauseDisplay {
     fn fmt<W: fmt::Write>(&self, f: &mut fmt::Formatter<W>) -> fmt::Result {
         match *self {
@@ -76,6 +79,7 @@ pub impl fmt::Display for Cause as CauseDisplay {
     }
 }
 
+// One line of text.
 pub impl fmt::Display for SheetError as SheetErrorDisplay {
     fn fmt<W: fmt::Write>(&self, f: &mut fmt::Formatter<W>) -> fmt::Result {
         match *self {
@@ -85,4 +89,5 @@ pub impl fmt::Display for SheetError as SheetErrorDisplay {
     }
 }
 
+// So that `?` turns it into an `AnyError`.
 pub impl Error for SheetError as SheetErrorError {}

@@ -3,7 +3,6 @@ ghost use mathlib.Core.List.{List};
 ghost use mathlib.Core.Path.{_≡_};
 ghost use lib.ListN.{length};
 ghost use Rattle.std.specs.Of.Vec.{vec-items};
-ghost use Rattle.std.specs.Results.{Cases};
 ghost use Rattle.std.specs.declared.result.Result.the-variants.{Ok, Err};
 ghost use Rattle.subscriber.specs.Answer.{draft-of, whole-with, Stepped};
 ghost use Rattle.subscriber.specs.Items.{with-ok, tray-is, hash-is, blocks-are};

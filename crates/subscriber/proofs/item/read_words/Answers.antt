@@ -2,8 +2,8 @@ use mathlib.Core.Path.{_≡_, sym, ap, _∙_}
 use native.Mathlib.Omega.{arith}
 use lib.ListN.{length}
 use Rattle.std.proofs.shelf.Tests.{eqb-true, eqb-false}
-use Rattle.std.specs.declared.option.Option.the-variants.{Some, None}
-use Rattle.subscriber.specs.Items.{said, after, keyword-of}
+use Rattle.std.specs.declared.option.Option.the-variants.{Some}
+use Rattle.subscriber.specs.Items.{after, keyword-of}
 use Rattle.subscriber.specs.Text.{words}
 use Rattle.subscriber.specs.declared.cause.Keyword.the-variants as keyword
 use Rattle.subscriber.proofs.Cuts.{words-none}

@@ -1,6 +1,6 @@
 use mathlib.Core.Path.{sym, ap, _∙_}
 use Rattle.std.proofs.shelf.Results.{err-from-errBy}
-use Rattle.std.specs.declared.result.Result.the-variants.{Ok, Err}
+use Rattle.std.specs.declared.result.Result.the-variants.{Err}
 use Rattle.subscriber.specs.declared.cause.Header.the-variants.{Hash}
 use Rattle.subscriber.proofs.Steps.{allowed-same, set-err, set-ok}
 use Rattle.subscriber.proofs.step.set_hash.Needs as need
