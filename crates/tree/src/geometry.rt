@@ -74,7 +74,7 @@ impl Geometry {
     pub fn total(&self) -> usize
         ensures { λ r. ⌜ r ≡ total (now (self .entry) .blocks) ⌝ }
     {
-        self.blocks_above(0)
+        self.upper_blocks(0)
     }
 
     // The place of data block `block` at a level: the tree block's number on the tree device, and the cell in it.
@@ -99,11 +99,11 @@ impl Geometry {
         requires { ⌜ level < levels (now self .blocks) ⌝ }
         ensures { λ r. ⌜ r ≡ start (now (self .entry) .blocks) level ⌝ }
     {
-        self.blocks_above(level + 1)
+        self.upper_blocks(level + 1)
     }
 
     // How many blocks this level and those above it have.
-    fn blocks_above(&self, level: usize) -> usize
+    fn upper_blocks(&self, level: usize) -> usize
         requires { ⌜ level ≤ levels (now self .blocks) ⌝ }
         ensures { λ r. ⌜ r ≡ above (now (self .entry) .blocks) level ⌝ }
     {

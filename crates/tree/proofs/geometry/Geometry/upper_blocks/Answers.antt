@@ -4,7 +4,7 @@ use native.Mathlib.Numerals.{add-one}
 use native.Mathlib.Omega.{arith}
 use Rattle.tree.specs.Geometry.{lower, levels, total}
 use Rattle.tree.proofs.Numbers.{levels-most, lower-most, width-most}
-use Rattle.tree.proofs.geometry.Geometry.blocks_above.Needs as need
+use Rattle.tree.proofs.geometry.Geometry.upper_blocks.Needs as need
 
 pub add-sum : need.add-sum
 add-sum c =
