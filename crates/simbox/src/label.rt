@@ -20,7 +20,7 @@ use tree::geometry::Geometry;
 fn geometry_of(sheet: &Sheet) -> Geometry
     ensures { λ r. ⌜ r .blocks ≡ now (sheet .entry) .blocks .value ⌝ }
 {
-    match Geometry::new(usize::from(sheet.blocks())) {
+    match Geometry::new(usize::from(sheet.blocks.value)) {
         Some(geometry) => geometry,
         None => unreachable(),
     }
@@ -30,8 +30,8 @@ fn geometry_of(sheet: &Sheet) -> Geometry
 fn report_sheet(heap: Global, sheet: &Sheet) -> Result<String, AllocError>
     ensures { λ r. ⌜ made r (λ s. string-bytes s ≡ report-of (now (sheet .entry))) ⌝ }
 {
-    let contents = load(heap, geometry_of(sheet), sheet.sims())?;
-    match sheet.hash() {
+    let contents = load(heap, geometry_of(sheet), sheet.sims.as_slice())?;
+    match sheet.hash {
         HashChoice::SipHash { key } => report(heap, sheet, &SipHash::new(key), &contents),
     }
 }

@@ -25,7 +25,7 @@ pub(crate) fn sim_line(heap: Global, block: usize, sim: &Sim) -> Result<String, 
 {
     let identity = sim.identity;
     let key = sim.key;
-    let sequence = sim.sequence.value();
+    let sequence = sim.sequence.value;
     format!(
         heap,
         "block {block}: identity {identity}, key {key}, sequence {sequence}\n"

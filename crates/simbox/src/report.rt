@@ -66,8 +66,8 @@ pub(crate) fn report<H: Hash>(
     ensures { λ r. ⌜ made r (λ s. string-bytes s ≡ report-with (H·Hash .number) (H·Hash .image (now (hash .entry))) (now (sheet .entry) .tray .value) (now (sheet .entry) .blocks .value) (vec-items (now (sheet .entry) .sims))) ⌝ }
 {
     let tree = Tree::over(heap, hash, contents)?;
-    let sims = sheet.sims().len();
-    let mut text = head_line(heap, sheet.tray(), sims, sheet.blocks())?;
+    let sims = sheet.sims.len();
+    let mut text = head_line(heap, sheet.tray.value, sims, sheet.blocks.value)?;
     let (held, _) = contents.blocks().split_at(sims);
     write_sims(heap, &mut text, held)?;
     write_tree(

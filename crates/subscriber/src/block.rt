@@ -14,7 +14,7 @@ fn head(sim: &Sim) -> [u8; 32]
     let mut bytes = [0u8; 32];
     bytes[0..20].copy_from_slice(&sim.identity.padded_digits());
     bytes[20..24].copy_from_slice(&u32::from(sim.key).to_le_bytes());
-    bytes[24..32].copy_from_slice(&sim.sequence.value().to_le_bytes());
+    bytes[24..32].copy_from_slice(&sim.sequence.value.to_le_bytes());
     bytes
 }
 

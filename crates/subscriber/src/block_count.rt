@@ -5,7 +5,7 @@ ghost use Prim.Native.Nat.{_≤_};
 // How many blocks a tray has, 1 to 4096.
 #[derive(Clone, Copy, PartialEq, Eq, Debug)]
 pub struct BlockCount {
-    value: u16,
+    pub value: u16,
     ghost low: { 1 ≤ value },
     ghost high: { value ≤ 4096 },
 }
@@ -17,12 +17,5 @@ impl BlockCount {
         ensures { λ r. ⌜ r .value ≡ value ⌝ }
     {
         BlockCount { value }
-    }
-
-    // The number itself.
-    pub(crate) fn value(self) -> u16
-        ensures { λ r. ⌜ r ≡ self .value ⌝ }
-    {
-        self.value
     }
 }

@@ -187,17 +187,17 @@ mod tests {
         let text =
             "# a tray\r\nblocks 0064\r\n\thash  siphash\t000102030405060708090A0b0c0d0e0f \r\n\r\ntray 42\nsim 901700000000001 3 4711\n \nsim 89490200001234567890 65535 281474976710655";
         let sheet = read_sheet(rt.alloc(), text.as_bytes())?;
-        check_eq(sheet.tray(), 42)?;
-        check_eq(sheet.blocks(), 64)?;
+        check_eq(sheet.tray.value, 42)?;
+        check_eq(sheet.blocks.value, 64)?;
         let key = [0, 1, 2, 3, 4, 5, 6, 7, 8, 9, 10, 11, 12, 13, 14, 15];
-        check_eq(sheet.hash(), HashChoice::SipHash { key })?;
-        let sims = sheet.sims();
+        check_eq(sheet.hash, HashChoice::SipHash { key })?;
+        let sims = sheet.sims.as_slice();
         check(sims.len() == 2)?;
         check_eq(sims[0].identity.digits(), b"901700000000001")?;
         check_eq(sims[0].key, 3)?;
-        check_eq(sims[0].sequence.value(), 4711)?;
+        check_eq(sims[0].sequence.value, 4711)?;
         check_eq(sims[1].identity.digits(), b"89490200001234567890")?;
         check_eq(sims[1].key, 65535)?;
-        check_eq(sims[1].sequence.value(), 281474976710655)
+        check_eq(sims[1].sequence.value, 281474976710655)
     }
 }

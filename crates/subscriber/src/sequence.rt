@@ -6,7 +6,7 @@ ghost use Rattle.std.specs.Options.{Cases as BySome};
 // A sequence number has 48 bits.
 #[derive(Clone, Copy, PartialEq, Eq, Debug)]
 pub struct Sequence {
-    value: u64,
+    pub value: u64,
     ghost small: { value < 2 ^ 48 },
 }
 
@@ -29,12 +29,5 @@ impl Sequence {
         ensures { λ r. ⌜ r .value ≡ value ⌝ }
     {
         Sequence { value }
-    }
-
-    // The number itself.
-    pub fn value(self) -> u64
-        ensures { λ r. ⌜ r ≡ self .value ⌝ }
-    {
-        self.value
     }
 }

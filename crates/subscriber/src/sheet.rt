@@ -1,8 +1,7 @@
 // The sheet of a tray.
 ghost use mathlib.Core.Path.{_≡_};
 ghost use Prim.Native.Nat.{_≤_};
-ghost use lib.ListN.{length};
-ghost use Rattle.std.specs.Of.Vec.{vec-len, vec-items};
+ghost use Rattle.std.specs.Of.Vec.{vec-len};
 use crate::block_count::BlockCount;
 use crate::sim::Sim;
 use crate::tray::HashChoice;
@@ -11,10 +10,10 @@ use crate::tray::TrayNumber;
 // A tray's number, its hash, and a SIM for each of its first blocks: the SIM at index k belongs into block k.
 #[derive(Drop)]
 pub struct Sheet {
-    tray: TrayNumber,
-    hash: HashChoice,
-    blocks: BlockCount,
-    sims: Vec<Sim>,
+    pub tray: TrayNumber,
+    pub hash: HashChoice,
+    pub blocks: BlockCount,
+    pub sims: Vec<Sim>,
     ghost few: { vec-len sims ≤ blocks .value },
 }
 
@@ -37,37 +36,5 @@ impl Sheet {
             blocks,
             sims,
         }
-    }
-
-    // The number of the tray, from 1 on.
-    pub fn tray(&self) -> u32
-        ensures value { λ r. ⌜ r ≡ now (self .entry) .tray .value ⌝ }
-        ensures low { λ r. ⌜ 1 ≤ r ⌝ }
-    {
-        self.tray.value()
-    }
-
-    // The hash of the tray.
-    pub fn hash(&self) -> HashChoice
-        ensures { λ r. ⌜ r ≡ now (self .entry) .hash ⌝ }
-    {
-        self.hash
-    }
-
-    // How many blocks the tray has, 1 to 4096.
-    pub fn blocks(&self) -> u16
-        ensures value { λ r. ⌜ r ≡ now (self .entry) .blocks .value ⌝ }
-        ensures low { λ r. ⌜ 1 ≤ r ⌝ }
-        ensures high { λ r. ⌜ r ≤ 4096 ⌝ }
-    {
-        self.blocks.value()
-    }
-
-    // The SIMs in the sheet's order, at most one for each block.
-    pub fn sims(&self) -> &[Sim]
-        ensures value { λ r. ⌜ now r ≡ vec-items (now (self .entry) .sims) ⌝ }
-        ensures few { λ r. ⌜ length (now r) ≤ now (self .entry) .blocks .value ⌝ }
-    {
-        self.sims.as_slice()
     }
 }

@@ -92,7 +92,7 @@ fn add_sim(headers: Headers, sims: &mut Vec<Sim>, sim: Sim) -> Result<Headers, F
     ensures { λ r. ⌜ Stepped (add (draft-of headers (vec-items (now (sims .entry)))) (entry-of sim)) r (vec-items (now (sims .exit))) ⌝ }
 {
     let heading = heading(headers)?;
-    if sims.len() >= usize::from(heading.blocks.value()) {
+    if sims.len() >= usize::from(heading.blocks.value) {
         return Err(Fault::Refused(Cause::TooManySims));
     }
     sims.push(sim)?;

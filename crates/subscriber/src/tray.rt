@@ -5,7 +5,7 @@ ghost use Prim.Native.Nat.{_≤_};
 // The number of a tray, 1 to 4294967295.
 #[derive(Clone, Copy, PartialEq, Eq, Debug)]
 pub struct TrayNumber {
-    value: u32,
+    pub value: u32,
     ghost low: { 1 ≤ value },
 }
 
@@ -15,13 +15,6 @@ impl TrayNumber {
         ensures { λ r. ⌜ r .value ≡ value ⌝ }
     {
         TrayNumber { value }
-    }
-
-    // The number itself.
-    pub(crate) fn value(self) -> u32
-        ensures { λ r. ⌜ r ≡ self .value ⌝ }
-    {
-        self.value
     }
 }
 

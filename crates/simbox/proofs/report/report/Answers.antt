@@ -17,7 +17,7 @@ split-at-requires g c κs =
     let sheet = c .args .sheet .now in
     let sims = vec-items (sheet .sims) in
     let room : length sims ≤ sheet .blocks .value = omega (arith, sheet .few, sheet .sims .ok .0) in
-    omega (arith, ap length (c .sims-sims .ensures .value), ap length (c .blocks-3 .ensures), ap length (c .pre), volume-length sims (sheet .blocks .value) room)
+    omega (arith, c .len-sims .ensures, sheet .sims .ok .0, ap length (c .blocks-2 .ensures), ap length (c .pre), volume-length sims (sheet .blocks .value) room)
 
 pub returns : need.returns
 returns g c =
@@ -26,13 +26,13 @@ returns g c =
     let blocks = sheet .blocks .value in
     let image = g .H·Hash .image (c .args .hash .now) in
     let room : length sims ≤ blocks = omega (arith, sheet .few, sheet .sims .ok .0) in
-    let count : length (c .sims-sims .result .now) ≡ length sims = ap length (c .sims-sims .ensures .value) in
+    let count : c .len-sims .result ≡ length sims = c .len-sims .ensures ∙ sheet .sims .ok .0 in
     let held : map sim-block sims ≡ c .split-at .result .0 .now =
-    sym (c .split-at .ensures .front ∙ (λ i. take (count i) ((c .blocks-3 .ensures ∙ c .pre) i)) ∙ volume-sims sims blocks room) in
+    sym (c .split-at .ensures .front ∙ (λ i. take (count i) ((c .blocks-2 .ensures ∙ c .pre) i)) ∙ volume-sims sims blocks room) in
     let size : c .geometry .result .blocks ≡ blocks = c .geometry .ensures ∙ c .args .contents .now .blocks .ok .0 ∙ ap length (c .pre) ∙ volume-length sims blocks room in
     let root : c .root .result ≡ root-of image (volume-of sims blocks) = c .root .ensures ∙ c .in-Continue-tree .ensures tt .layout .1 ∙ ap (root-of image) (c .pre) in
     reported sims blocks room (g .H·Hash .number) image (sheet .tray .value) (c .geometry .result .blocks) (c .kind-number .result) (c .root .result)
     (string-bytes (c .in-Continue-text .text)) (string-bytes (c .write-sims .last .text)) (string-bytes (c .write-tree .last .text)) size (c .kind-number .ensures) root
-    (c .in-Continue-text .ensures tt ∙ (λ i. head-line (c .tray .ensures .value i) (count i) (c .blocks-2 .ensures .value i)))
+    (c .in-Continue-text .ensures tt ∙ (λ i. head-line (sheet .tray .value) (count i) (sheet .blocks .value)))
     (c .in-Continue-write-sims .ensures tt sims held)
     (c .in-Continue-write-tree .ensures tt)

@@ -32,5 +32,5 @@ unfolding sim-head
 returns c =
     let a = c .copy-from-slice .ensures .after ∙ c .padded-digits .ensures in
     let b = c .copy-from-slice-2 .ensures .after ∙ c .to-le-bytes .ensures ∙ little-4 _ ∙ ap (little-endian 4) (c .from .ensures) in
-    let d = c .copy-from-slice-3 .ensures .after ∙ c .to-le-bytes-2 .ensures ∙ little-8 _ ∙ ap (little-endian 8) (c .value .ensures) in
+    let d = c .copy-from-slice-3 .ensures .after ∙ c .to-le-bytes-2 .ensures ∙ little-8 _ in
     three _ _ _ (search needs) (search needs) (search needs) ∙ (λ i. a i ++ (b i ++ d i))
