@@ -1,6 +1,3 @@
-pub mod Padding
-pub mod Bytes
-pub mod Blocks
 pub mod Cuts
 pub mod Numbers
 pub mod Keys

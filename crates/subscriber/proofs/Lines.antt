@@ -8,7 +8,7 @@ use lib.Dec.{leb, eqb}
 use lib.ListN.{length, getD, drop}
 use Rattle.std.proofs.shelf.Tests.{and-left, and-right, and-from, and-parts, lt-leb, le-leb, cond-true, cond-false}
 use Rattle.std.specs.declared.result.Result.the-variants.{Ok, Err}
-use Rattle.subscriber.specs.Identity.{digit-run, is-identity, padded}
+use Rattle.sim.specs.Identity.{digit-run, is-identity, padded}
 use Rattle.subscriber.specs.Items.{identity-in, said, after, keyword-of, nothing, line-says}
 use Rattle.subscriber.specs.Text.{words}
 use Rattle.subscriber.specs.declared.cause.Cause.the-variants.{IdentityLength, IdentityDigit}

@@ -19,7 +19,7 @@ use Rattle.subscriber.specs.declared.cause.Header.{Header}
 use Rattle.subscriber.specs.declared.cause.Header.the-variants.{Blocks}
 use Rattle.subscriber.specs.declared.headers.Heading.{Heading}
 use Rattle.subscriber.specs.declared.headers.Headers.{Headers}
-use Rattle.subscriber.specs.declared.sim.Sim.{Sim}
+use Rattle.sim.specs.declared.Sim.{Sim}
 use Rattle.subscriber.specs.declared.tray.HashChoice.{HashChoice}
 use Rattle.subscriber.specs.Answer.{draft-of, whole-with, Room}
 use Rattle.subscriber.specs.Items.{Entry, Said, nothing, tray-is, hash-is, blocks-are, sim-is, with-ok, then-ok, line-says}

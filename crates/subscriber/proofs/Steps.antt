@@ -15,7 +15,7 @@ use Rattle.std.specs.declared.result.Result.the-variants.{Ok, Err}
 use Rattle.subscriber.specs.declared.cause.Cause.{Cause}
 use Rattle.subscriber.specs.declared.cause.Cause.the-variants.{TooManySims}
 use Rattle.subscriber.specs.declared.cause.Header.{Header}
-use Rattle.subscriber.specs.declared.sim.Sim.{Sim}
+use Rattle.sim.specs.declared.Sim.{Sim}
 use Rattle.subscriber.specs.declared.headers.Heading.{Heading}
 use Rattle.subscriber.specs.declared.headers.Headers.{Headers}
 use Rattle.subscriber.specs.Answer.{draft-of, whole-with}

@@ -15,7 +15,7 @@ use Rattle.subscriber.specs.declared.headers.Heading.{Heading}
 use Rattle.subscriber.specs.declared.headers.Headers.{Headers}
 use Rattle.subscriber.specs.declared.headers.Fault.{Fault}
 use Rattle.subscriber.specs.declared.headers.Fault.the-variants as fault
-use Rattle.subscriber.specs.declared.sim.Sim.{Sim}
+use Rattle.sim.specs.declared.Sim.{Sim}
 use Rattle.subscriber.specs.declared.sheet.Sheet.{Sheet}
 use Rattle.subscriber.specs.Plain.{entry-of}
 use Rattle.subscriber.specs.Sheet.{Draft, Whole}

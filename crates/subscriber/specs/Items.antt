@@ -18,7 +18,7 @@ use Rattle.subscriber.specs.declared.cause.Keyword.the-variants as keyword
 use Rattle.subscriber.specs.declared.cause.Number.the-variants as number
 use Rattle.subscriber.specs.declared.tray.HashChoice.{HashChoice}
 use Rattle.subscriber.specs.declared.tray.HashChoice.the-variants.{SipHash}
-use Rattle.subscriber.specs.Identity.{digit-run, padded}
+use Rattle.sim.specs.Identity.{digit-run, padded}
 use Rattle.subscriber.specs.Number.{number-in}
 use Rattle.subscriber.specs.Text.{words}
 

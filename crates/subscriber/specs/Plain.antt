@@ -2,7 +2,7 @@
 use Rattle.subscriber.specs.Items.{Entry, Said, nothing, tray-is, hash-is, blocks-are, sim-is}
 use Rattle.subscriber.specs.declared.item.Item.{Item}
 use Rattle.subscriber.specs.declared.item.Item.the-variants as item
-use Rattle.subscriber.specs.declared.sim.Sim.{Sim}
+use Rattle.sim.specs.declared.Sim.{Sim}
 
 -- a SIM as a sheet has it
 abbrev pub entry-of : Sim → Entry

@@ -1,6 +1,5 @@
 -- The classes of bytes that a text is cut by.
-use mathlib.Core.Bool.{Bool, true, not, _&&_, _||_}
-use mathlib.Core.List.{List, [], _∷_}
+use mathlib.Core.Bool.{Bool, not, _||_}
 use Prim.Native.Nat.{ℕ}
 use lib.Dec.{eqb}
 use Rattle.std.specs.Text.{asciiDigit}
@@ -17,8 +16,3 @@ belongs Digit c = asciiDigit c
 belongs Blank c = blank c
 belongs Solid c = not (blank c)
 belongs Inline c = not (eqb c 10)
-
--- nothing but zero bytes
-abbrev pub all-zero : List ℕ → Bool
-all-zero [] = true
-all-zero (c ∷ cs) = eqb c 0 && all-zero cs

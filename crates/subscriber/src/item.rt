@@ -13,14 +13,14 @@ use crate::cause::Cause;
 use crate::cause::Keyword;
 use crate::cause::Number;
 use crate::hex::hex_key;
-use crate::identity::Identity;
 use crate::number::number;
-use crate::sequence::Sequence;
-use crate::sim::Sim;
 use crate::text::cut_word;
 use crate::text::word_count;
 use crate::tray::HashChoice;
 use crate::tray::TrayNumber;
+use sim::Sim;
+use sim::identity::Identity;
+use sim::sequence::Sequence;
 
 // What a line says.
 #[derive(Clone, Copy)]
@@ -132,7 +132,7 @@ fn sim_line(rest: &[u8]) -> Result<Item, Cause>
     Ok(Item::Sim(Sim {
         identity,
         key: key as u16,
-        sequence: Sequence::of(sequence),
+        sequence: Sequence { value: sequence },
     }))
 }
 

@@ -3,7 +3,7 @@ ghost use mathlib.Core.Path.{_≡_};
 ghost use Prim.Native.Nat.{_≤_};
 ghost use lib.ListN.{length};
 ghost use Rattle.std.specs.shelf.Lists.{leading};
-ghost use Rattle.subscriber.specs.Scan.{belongs, all-zero};
+ghost use Rattle.subscriber.specs.Scan.{belongs};
 
 // A class of bytes.
 #[derive(Clone, Copy)]
@@ -41,16 +41,4 @@ pub(crate) fn run(text: &[u8], class: Class) -> usize
         n += 1;
     }
     n
-}
-
-// Whether each byte is zero.
-pub(crate) fn is_zero(bytes: &[u8]) -> bool
-    ensures { λ r. ⌜ r ≡ all-zero (now (bytes .entry)) ⌝ }
-{
-    for b in bytes {
-        if *b != 0 {
-            return false;
-        }
-    }
-    true
 }

@@ -18,9 +18,9 @@ use crate::headers::Headers;
 use crate::headers::Heading;
 use crate::item::Item;
 use crate::item::read_line;
-use crate::sim::Sim;
 use crate::tray::HashChoice;
 use crate::tray::TrayNumber;
+use sim::Sim;
 
 // A header stands before the first SIM, and only once.
 fn allow(header: Header, there: bool, sims: usize) -> Result<(), Cause>

@@ -2,5 +2,3 @@
 pub mod contents;
 pub mod geometry;
 pub mod layout;
-#[cfg(test)]
-mod tests;

@@ -1,0 +1,3 @@
+pub mod Padding
+pub mod Bytes
+pub mod Blocks
