@@ -5,8 +5,8 @@ use Prim.Native.Nat.{ℕ, _+_, _-_, _<_, _≤_}
 use native.Mathlib.Omega.{arith}
 use lib.ListN.{length, take, replicate, length-append, length-map, length-replicate}
 use Rattle.std.proofs.shelf.Lists.{take-at}
-use Rattle.subscriber.specs.Block.{sim-block}
-use Rattle.subscriber.specs.declared.sim.Sim.{Sim}
+use Rattle.sim.specs.Block.{sim-block}
+use Rattle.sim.specs.declared.Sim.{Sim}
 use Rattle.tree.specs.Geometry.{levels, total}
 use Rattle.tree.specs.Layout.{zero-block, root-of}
 use Rattle.simbox.specs.Label.{volume-of, report-with}

@@ -8,8 +8,8 @@ use lib.ListN.{length, getD, take, length-map}
 use Rattle.std.proofs.shelf.Lists.{take-more, take-all, length-take-le, getD-map}
 use Rattle.std.specs.declared.option.Option.{Option}
 use Rattle.std.specs.declared.option.Option.the-variants.{Some}
-use Rattle.subscriber.specs.Block.{sim-block}
-use Rattle.subscriber.specs.declared.sim.Sim.{Sim}
+use Rattle.sim.specs.Block.{sim-block}
+use Rattle.sim.specs.declared.Sim.{Sim}
 use Rattle.simbox.specs.Report.{sim-line, sim-lines}
 
 lines-push : (j : ℕ) (ss : List Sim) (s : Sim) → sim-lines j (ss ++ s ∷ []) ≡ sim-lines j ss ++ sim-line (j + length ss) s

@@ -11,12 +11,12 @@ use Rattle.std.specs.declared.result.Result.the-variants.{Ok, Err}
 use Rattle.std.specs.declared.string.String.{String}
 use Rattle.digest.specs.SipHash.{sip-cell}
 use Rattle.subscriber.specs.Answer.{plain-sheet}
-use Rattle.subscriber.specs.Block.{sim-block}
+use Rattle.sim.specs.Block.{sim-block}
 use Rattle.subscriber.specs.Sheet.{sheet-of}
 use Rattle.subscriber.specs.declared.cause.SheetError.{SheetError}
 use Rattle.subscriber.specs.declared.cause.SheetError.the-variants as error
 use Rattle.subscriber.specs.declared.sheet.Sheet.{Sheet}
-use Rattle.subscriber.specs.declared.sim.Sim.{Sim}
+use Rattle.sim.specs.declared.Sim.{Sim}
 use Rattle.subscriber.specs.declared.tray.HashChoice.{HashChoice}
 use Rattle.subscriber.specs.declared.tray.HashChoice.the-variants.{SipHash}
 use Rattle.tree.specs.Geometry.{levels, total}

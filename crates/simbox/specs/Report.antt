@@ -5,8 +5,8 @@ use Prim.Native.Nat.{ℕ, _+_, _/_, _%_}
 use lib.Chars.{codes}
 use lib.Dec.{ltb}
 use Rattle.std.specs.Written.{decimal}
-use Rattle.subscriber.specs.Identity.{unpadded}
-use Rattle.subscriber.specs.declared.sim.Sim.{Sim}
+use Rattle.sim.specs.Identity.{unpadded}
+use Rattle.sim.specs.declared.Sim.{Sim}
 
 abbrev pub head-line : ℕ → ℕ → ℕ → List ℕ
 head-line tray sims blocks = codes "tray " ++ (decimal tray ++ (codes ": SIMs " ++ (decimal sims ++ (codes ", blocks " ++ (decimal blocks ++ codes "\n")))))

@@ -16,21 +16,14 @@ use subscriber::sheet::Sheet;
 use subscriber::tray::HashChoice;
 use tree::geometry::Geometry;
 
-// The numbers of the tree over a sheet's blocks, of which there are always 1 to 4096.
-fn geometry_of(sheet: &Sheet) -> Geometry
-    ensures { λ r. ⌜ r .blocks ≡ now (sheet .entry) .blocks .value ⌝ }
-{
-    match Geometry::new(usize::from(sheet.blocks.value)) {
-        Some(geometry) => geometry,
-        None => unreachable(),
-    }
-}
-
 // The report of a sheet, under the hash that it names.
 fn report_sheet(heap: Global, sheet: &Sheet) -> Result<String, AllocError>
     ensures { λ r. ⌜ made r (λ s. string-bytes s ≡ report-of (now (sheet .entry))) ⌝ }
 {
-    let contents = load(heap, geometry_of(sheet), sheet.sims.as_slice())?;
+    let geometry = Geometry {
+        blocks: usize::from(sheet.blocks.value),
+    };
+    let contents = load(heap, geometry, sheet.sims.as_slice())?;
     match sheet.hash {
         HashChoice::SipHash { key } => report(heap, sheet, &SipHash::new(key), &contents),
     }

@@ -6,7 +6,7 @@ ghost use lib.ListN.{length};
 ghost use Rattle.std.specs.Of.String.{string-bytes};
 ghost use Rattle.std.specs.Of.Vec.{vec-items, vec-len};
 ghost use Rattle.std.specs.Vec.{made};
-ghost use Rattle.subscriber.specs.Block.{sim-block};
+ghost use Rattle.sim.specs.Block.{sim-block};
 ghost use Rattle.simbox.specs.Label.{report-with, volume-of};
 ghost use Rattle.simbox.specs.Report.{sim-lines, tree-line, label-line};
 ghost use Rattle.tree.specs.Geometry.{levels, total};
@@ -15,11 +15,11 @@ use crate::lines::label_line;
 use crate::lines::sim_line;
 use crate::lines::tree_line;
 use digest::hash::Hash;
+use sim::Sim;
+use sim::block::decode;
 use std::alloc::AllocError;
 use std::alloc::Global;
-use subscriber::block::decode;
 use subscriber::sheet::Sheet;
-use subscriber::sim::Sim;
 use tree::contents::Contents;
 use tree::geometry::Geometry;
 use tree::layout::Tree;
@@ -68,7 +68,7 @@ pub(crate) fn report<H: Hash>(
     let tree = Tree::over(heap, hash, contents)?;
     let sims = sheet.sims.len();
     let mut text = head_line(heap, sheet.tray.value, sims, sheet.blocks.value)?;
-    let (held, _) = contents.blocks().split_at(sims);
+    let (held, _) = contents.blocks.as_slice().split_at(sims);
     write_sims(heap, &mut text, held)?;
     write_tree(
         heap,

@@ -19,7 +19,7 @@ impl TrayNumber {
 }
 
 // The hash of a tray, with its key.
-#[derive(Clone, Copy, PartialEq, Eq, Debug)]
+#[derive(Clone, Copy)]
 pub enum HashChoice {
     // SipHash-2-4.
     SipHash { key: [u8; 16] },

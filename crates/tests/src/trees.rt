@@ -18,7 +18,7 @@ fn sizes() -> Result<(), Fail> {
         let Some(geometry) = Geometry::new(blocks) else {
             return Err(Fail::new("a size in range is refused"));
         };
-        check_eq(geometry.blocks(), blocks)?;
+        check_eq(geometry.blocks, blocks)?;
         check_eq(geometry.levels(), levels)?;
         check_eq(geometry.total(), total)?;
         check_eq(geometry.start(0), Some(start))?;

@@ -13,7 +13,7 @@ use std::alloc::Global;
 
 #[derive(Drop)]
 pub struct Contents {
-    blocks: Vec<[u8; 512]>,
+    pub blocks: Vec<[u8; 512]>,
     ghost least: { 1 ≤ vec-len blocks },
     ghost most: { vec-len blocks ≤ 4096 },
 }
@@ -29,7 +29,7 @@ impl Contents {
     pub fn zeros(heap: Global, geometry: Geometry) -> Result<Contents, AllocError>
         ensures { λ r. ⌜ made r (λ c. vec-items (c .blocks) ≡ replicate (geometry .blocks) zero-block) ⌝ }
     {
-        let blocks = zero_blocks(heap, geometry.blocks())?;
+        let blocks = zero_blocks(heap, geometry.blocks)?;
         Ok(Contents { blocks })
     }
 
@@ -44,16 +44,13 @@ impl Contents {
         Ok(())
     }
 
+    // The numbers of the tree over these blocks.
     pub fn geometry(&self) -> Geometry
         ensures { λ r. ⌜ r .blocks ≡ vec-len (now (self .entry) .blocks) ⌝ }
     {
-        Geometry::known(self.blocks.len())
-    }
-
-    pub fn blocks(&self) -> &[[u8; 512]]
-        ensures { λ r. ⌜ now r ≡ vec-items (now (self .entry) .blocks) ⌝ }
-    {
-        self.blocks.as_slice()
+        Geometry {
+            blocks: self.blocks.len(),
+        }
     }
 }
 

@@ -10,7 +10,8 @@ pub const MOST: usize = 4096;
 // The numbers of a tree over 1 to 4096 data blocks; no other can be made.
 #[derive(Clone, Copy)]
 pub struct Geometry {
-    blocks: usize,
+    // The number N of data blocks.
+    pub blocks: usize,
     ghost least: { 1 ≤ blocks },
     ghost most: { blocks ≤ 4096 },
 }
@@ -26,26 +27,12 @@ impl Geometry {
         }
     }
 
-    // For a number that is known to be in range.
-    pub(crate) fn known(blocks: usize) -> Geometry
-        requires { ⌜ 1 ≤ blocks ⌝ ∗ ⌜ blocks ≤ 4096 ⌝ }
-        ensures { λ r. ⌜ r .blocks ≡ blocks ⌝ }
-    {
-        Geometry { blocks }
-    }
-
-    // The number N of data blocks.
-    pub fn blocks(&self) -> usize
-        ensures { λ r. ⌜ r ≡ now (self .entry) .blocks ⌝ }
-    {
-        self.blocks
-    }
-
-    // The number of levels.
+    // The number of levels: four bits of the highest block number to a level, and one level at least.
     pub fn levels(&self) -> usize
         ensures { λ r. ⌜ r ≡ levels (now (self .entry) .blocks) ⌝ }
     {
-        levels_over(self.blocks)
+        let bits = (64 - (self.blocks - 1).leading_zeros()) as usize;
+        ((bits + 3) / 4).max(1)
     }
 
     // How many blocks a level has.
@@ -120,15 +107,6 @@ impl Geometry {
     {
         cell_of(self.start_of(level), block >> (4 * level))
     }
-}
-
-// Four bits of the highest block number to a level, and one level at least.
-fn levels_over(blocks: usize) -> usize
-    requires { ⌜ 1 ≤ blocks ⌝ ∗ ⌜ blocks ≤ 4096 ⌝ }
-    ensures { λ r. ⌜ r ≡ levels blocks ⌝ }
-{
-    let bits = (64 - (blocks - 1).leading_zeros()) as usize;
-    ((bits + 3) / 4).max(1)
 }
 
 // Where the image of a block stands in the level above it, which starts at block `start` of the tree device: the tree block's number

@@ -84,9 +84,13 @@ impl Tree {
         ensures leads { λ r. ⌜ made r (λ t. Lead-up (H·Hash .image (now (hash .entry))) (vec-items (now (contents .entry) .blocks)) (vec-items (t .blocks)) (t .root)) ⌝ }
     {
         let geometry = contents.geometry();
-        let below = contents.blocks();
         let mut blocks = zero_blocks(heap, geometry.total())?;
-        fill(hash, geometry, below, blocks.as_mut_slice());
+        fill(
+            hash,
+            geometry,
+            contents.blocks.as_slice(),
+            blocks.as_mut_slice(),
+        );
         let root = hash.image_of(&blocks[0]);
         Ok(Tree { blocks, root })
     }

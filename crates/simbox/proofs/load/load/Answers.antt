@@ -4,7 +4,7 @@ use mathlib.Core.List.{_++_, map}
 use native.Mathlib.Omega.{arith}
 use lib.ListN.{length, set, replicate, length-replicate}
 use Rattle.std.specs.Of.Vec.{vec-items, vec-len}
-use Rattle.subscriber.specs.Block.{sim-block}
+use Rattle.sim.specs.Block.{sim-block}
 use Rattle.tree.specs.Layout.{zero-block}
 use Rattle.simbox.proofs.Loaded.{not-refused, loaded-none, loaded-more, loaded-length, loaded-all}
 use Rattle.simbox.proofs.load.load.Needs as need

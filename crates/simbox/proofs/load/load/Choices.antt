@@ -3,7 +3,7 @@ use mathlib.Core.List.{_++_, map}
 use mathlib.Core.Path.{_≡_}
 use lib.ListN.{take, replicate}
 use Rattle.std.specs.Of.Vec.{vec-items, vec-len}
-use Rattle.subscriber.specs.Block.{sim-block}
+use Rattle.sim.specs.Block.{sim-block}
 use Rattle.tree.specs.Layout.{zero-block}
 use Rattle.simbox.proofs.load.load.Given as given
 

@@ -5,7 +5,7 @@ use native.Mathlib.Omega.{arith}
 use lib.ListN.{length, take}
 use Rattle.std.specs.Of.String.{string-bytes}
 use Rattle.std.specs.Of.Vec.{vec-items}
-use Rattle.subscriber.specs.Block.{sim-block}
+use Rattle.sim.specs.Block.{sim-block}
 use Rattle.tree.specs.Layout.{root-of}
 use Rattle.simbox.specs.Label.{volume-of}
 use Rattle.simbox.specs.Report.{head-line}
@@ -17,7 +17,7 @@ split-at-requires g c κs =
     let sheet = c .args .sheet .now in
     let sims = vec-items (sheet .sims) in
     let room : length sims ≤ sheet .blocks .value = omega (arith, sheet .few, sheet .sims .ok .0) in
-    omega (arith, c .len-sims .ensures, sheet .sims .ok .0, ap length (c .blocks-2 .ensures), ap length (c .pre), volume-length sims (sheet .blocks .value) room)
+    omega (arith, c .len-sims .ensures, sheet .sims .ok .0, ap length (c .as-slice .ensures .value), ap length (c .pre), volume-length sims (sheet .blocks .value) room)
 
 pub returns : need.returns
 returns g c =
@@ -28,7 +28,7 @@ returns g c =
     let room : length sims ≤ blocks = omega (arith, sheet .few, sheet .sims .ok .0) in
     let count : c .len-sims .result ≡ length sims = c .len-sims .ensures ∙ sheet .sims .ok .0 in
     let held : map sim-block sims ≡ c .split-at .result .0 .now =
-    sym (c .split-at .ensures .front ∙ (λ i. take (count i) ((c .blocks-2 .ensures ∙ c .pre) i)) ∙ volume-sims sims blocks room) in
+    sym (c .split-at .ensures .front ∙ (λ i. take (count i) ((c .as-slice .ensures .value ∙ c .pre) i)) ∙ volume-sims sims blocks room) in
     let size : c .geometry .result .blocks ≡ blocks = c .geometry .ensures ∙ c .args .contents .now .blocks .ok .0 ∙ ap length (c .pre) ∙ volume-length sims blocks room in
     let root : c .root .result ≡ root-of image (volume-of sims blocks) = c .root .ensures ∙ c .in-Continue-tree .ensures tt .layout .1 ∙ ap (root-of image) (c .pre) in
     reported sims blocks room (g .H·Hash .number) image (sheet .tray .value) (c .geometry .result .blocks) (c .kind-number .result) (c .root .result)

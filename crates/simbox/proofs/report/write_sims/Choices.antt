@@ -2,8 +2,8 @@ use mathlib.Core.List.{List, map, _++_}
 use mathlib.Core.Path.{_≡_}
 use lib.ListN.{take}
 use Rattle.std.specs.Of.String.{string-bytes}
-use Rattle.subscriber.specs.Block.{sim-block}
-use Rattle.subscriber.specs.declared.sim.Sim.{Sim}
+use Rattle.sim.specs.Block.{sim-block}
+use Rattle.sim.specs.declared.Sim.{Sim}
 use Rattle.simbox.specs.Report.{sim-lines}
 use Rattle.simbox.proofs.report.write_sims.Given as given
 

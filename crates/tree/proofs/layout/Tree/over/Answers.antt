@@ -23,8 +23,9 @@ returns g c =
     let made = c .fill .last .tree in
     let rest = drop (length made) (blocks .items) in
     let size : length contents ≡ n .blocks = sym (c .geometry-geometry .ensures ∙ c .args .contents .now .blocks .ok .0) in
+    let filled : made ≡ tree-of image contents = c .fill .ensures ∙ ap (tree-of image) (c .as-slice .ensures .value) in
     let is = made-tree image contents (n .blocks) (blocks .len) made rest (c .index .result .now) (c .image-of-root .result) size (n .least) (n .most)
-    (c .in-Continue-blocks .ensures tt .1 ∙ c .total .ensures) (c .fill .ensures ∙ ap (tree-of image) (c .blocks-below .ensures)) (c .index .ensures) (c .image-of-root .ensures) in
+    (c .in-Continue-blocks .ensures tt .1 ∙ c .total .ensures) filled (c .index .ensures) (c .image-of-root .ensures) in
     record {
       layout = is;
       leads = leads-there image (λ b. g .H·Hash·met .cell (c .args .hash .now) b .long) contents (n .blocks) (take (blocks .len) (made ++ rest)) (c .image-of-root .result) size (n .least) (n .most) is;
