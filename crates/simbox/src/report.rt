@@ -75,7 +75,7 @@ pub(crate) fn report<H: Hash>(
         &mut text,
         contents.geometry(),
         H::kind_number(),
-        &tree.root(),
+        &tree.root,
     )?;
     Ok(text)
 }

@@ -72,8 +72,8 @@ fn fill<H: Hash>(hash: &H, geometry: Geometry, contents: &[[u8; 512]], tree: &mu
 // All levels as they lie on the tree device, the top first, and the image of the top block.
 #[derive(Drop)]
 pub struct Tree {
-    blocks: Vec<[u8; 512]>,
-    root: [u8; 32],
+    pub blocks: Vec<[u8; 512]>,
+    pub root: [u8; 32],
 }
 
 impl Tree {
@@ -93,18 +93,5 @@ impl Tree {
         );
         let root = hash.image_of(&blocks[0]);
         Ok(Tree { blocks, root })
-    }
-
-    // The blocks of the tree device from block 0 on.
-    pub fn blocks(&self) -> &[[u8; 512]]
-        ensures { λ r. ⌜ now r ≡ vec-items (now (self .entry) .blocks) ⌝ }
-    {
-        self.blocks.as_slice()
-    }
-
-    pub fn root(&self) -> [u8; 32]
-        ensures { λ r. ⌜ r ≡ now (self .entry) .root ⌝ }
-    {
-        self.root
     }
 }

@@ -30,8 +30,8 @@ returns g c =
     let held : map sim-block sims ≡ c .split-at .result .0 .now =
     sym (c .split-at .ensures .front ∙ (λ i. take (count i) ((c .as-slice .ensures .value ∙ c .pre) i)) ∙ volume-sims sims blocks room) in
     let size : c .geometry .result .blocks ≡ blocks = c .geometry .ensures ∙ c .args .contents .now .blocks .ok .0 ∙ ap length (c .pre) ∙ volume-length sims blocks room in
-    let root : c .root .result ≡ root-of image (volume-of sims blocks) = c .root .ensures ∙ c .in-Continue-tree .ensures tt .layout .1 ∙ ap (root-of image) (c .pre) in
-    reported sims blocks room (g .H·Hash .number) image (sheet .tray .value) (c .geometry .result .blocks) (c .kind-number .result) (c .root .result)
+    let root : c .in-Continue-tree .tree .root ≡ root-of image (volume-of sims blocks) = c .in-Continue-tree .ensures tt .layout .1 ∙ ap (root-of image) (c .pre) in
+    reported sims blocks room (g .H·Hash .number) image (sheet .tray .value) (c .geometry .result .blocks) (c .kind-number .result) (c .in-Continue-tree .tree .root)
     (string-bytes (c .in-Continue-text .text)) (string-bytes (c .write-sims .last .text)) (string-bytes (c .write-tree .last .text)) size (c .kind-number .ensures) root
     (c .in-Continue-text .ensures tt ∙ (λ i. head-line (sheet .tray .value) (count i) (sheet .blocks .value)))
     (c .in-Continue-write-sims .ensures tt sims held)
