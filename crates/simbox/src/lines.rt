@@ -4,10 +4,10 @@ ghost use Prim.Native.Nat.{_<_};
 ghost use Rattle.std.specs.Of.String.{string-bytes};
 ghost use Rattle.std.specs.Vec.{made};
 ghost use Rattle.simbox.specs.Report.{head-line, sim-line, tree-line, label-line, hex, hex-digit};
-use sim::Sim;
-use sim::identity::IdentityDisplay;
 use std::alloc::AllocError;
 use std::alloc::Global;
+use subscriber::IdentityDisplay;
+use subscriber::Sim;
 
 pub(crate) fn head_line(
     heap: Global,

@@ -5,10 +5,10 @@ ghost use lib.ListN.{length};
 ghost use Rattle.std.specs.Of.Vec.{vec-items};
 ghost use Rattle.std.specs.Vec.{made};
 ghost use Rattle.simbox.specs.Label.{volume-of};
-use sim::Sim;
-use sim::block::encode;
 use std::alloc::AllocError;
 use std::alloc::Global;
+use subscriber::Sim;
+use subscriber::encode;
 use tree::contents::Contents;
 use tree::geometry::Geometry;
 
