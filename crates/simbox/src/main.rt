@@ -5,8 +5,8 @@ mod load;
 mod report;
 
 use std::env;
-use std::io::Read;
 use std::io;
+use std::io::Read;
 use subscriber::cause::SheetError;
 use subscriber::shown::SheetErrorDisplay;
 
