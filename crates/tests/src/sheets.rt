@@ -1,5 +1,7 @@
 // Sheets and what is said of them, by the rules in docs/SHEET.md.
+use sim::Sim;
 use sim::identity::IdentityDisplay;
+use std::alloc::Global;
 use std::test::*;
 use subscriber::cause::SheetErrorDebug;
 use subscriber::read::read_sheet;
@@ -141,13 +143,20 @@ const REFUSALS: [(&str, &str); 36] = [
 
 #[test]
 fn refusals(rt: LibcRuntime) -> Result<(), Fail> {
-    for (text, told) in REFUSALS {
+    for (text, told) in &REFUSALS {
         let Err(error) = read_sheet(rt.alloc(), text.as_bytes()) else {
-            return Err(Fail::new("a bad sheet is read")).note(text);
+            return Err(Fail::new("a bad sheet is read")).note(*text);
         };
-        check_eq(error.to_string(rt.alloc())?.as_str(), told).note(text)?;
+        check_eq(error.to_string(rt.alloc())?.as_str(), *told).note(*text)?;
     }
     Ok(())
+}
+
+// Compares a SIM of a sheet with what the sheet has.
+fn check_sim(heap: Global, sim: &Sim, identity: &str, key: u16, sequence: u64) -> Result<(), Fail> {
+    check_eq(sim.identity.to_string(heap)?.as_str(), identity)?;
+    check_eq(sim.key, key)?;
+    check_eq(sim.sequence.value, sequence)
 }
 
 #[test]
@@ -159,18 +168,15 @@ fn good_sheet(rt: LibcRuntime) -> Result<(), Fail> {
     check_eq(sheet.blocks.value, 64)?;
     let HashChoice::SipHash { key } = sheet.hash;
     check_eq(key, [0, 1, 2, 3, 4, 5, 6, 7, 8, 9, 10, 11, 12, 13, 14, 15])?;
-    let sims = sheet.sims.as_slice();
-    check(sims.len() == 2)?;
-    check_eq(
-        sims[0].identity.to_string(rt.alloc())?.as_str(),
-        "901700000000001",
-    )?;
-    check_eq(sims[0].key, 3)?;
-    check_eq(sims[0].sequence.value, 4711)?;
-    check_eq(
-        sims[1].identity.to_string(rt.alloc())?.as_str(),
+    let [first, second] = sheet.sims.as_slice() else {
+        return Err(Fail::new("not two SIMs"));
+    };
+    check_sim(rt.alloc(), first, "901700000000001", 3, 4711)?;
+    check_sim(
+        rt.alloc(),
+        second,
         "89490200001234567890",
-    )?;
-    check_eq(sims[1].key, 65535)?;
-    check_eq(sims[1].sequence.value, 281474976710655)
+        65535,
+        281474976710655,
+    )
 }
