@@ -8,74 +8,39 @@ use crate::cause::SheetErrorDebug;
 use std::error::Error;
 use std::fmt;
 
-// The word of the header.
-pub impl fmt::Display for Header as HeaderDisplay {
-    fn fmt<W: fmt::Write>(&self, f: &mut fmt::Formatter<W>) -> fmt::Result {
-        f.write_str(
-            match *self {
-                Header::Tray => "tray",
-                Header::Hash => "hash",
-                Header::Blocks => "blocks",
-            },
-        )
-    }
-}
-
-// The line as it should be.
-pub impl fmt::Display for Keyword as KeywordDisplay {
-    fn fmt<W: fmt::Write>(&self, f: &mut fmt::Formatter<W>) -> fmt::Result {
-        f.write_str(
-            match *self {
-                Keyword::Tray => "tray NUMBER",
-                Keyword::Hash => "hash siphash KEY",
-                Keyword::Blocks => "blocks NUMBER",
-                Keyword::Sim => "sim IDENTITY KEY-INDEX SEQUENCE-NUMBER",
-            },
-        )
-    }
-}
-
-// What the number is called.
-pub impl fmt::Display for Number as NumberDisplay {
-    fn fmt<W: fmt::Write>(&self, f: &mut fmt::Formatter<W>) -> fmt::Result {
-        f.write_str(
-            match *self {
-                Number::Tray => "tray number",
-                Number::Blocks => "number of blocks",
-                Number::KeyIndex => "key index",
-                Number::Sequence => "sequence number",
-            },
-        )
-    }
-}
-
-// The range of a number.
-fn out_of_range<W: fmt::Write>(f: &mut fmt::Formatter<W>, number: Number) -> fmt::Result {
-    let least = number.least();
-    let most = number.most();
-    write!(f, "{number} out of range ({least} to {most})")
-}
-
-// The cause, without its line.
-pub impl fmt::Display for Cause as CauseDisplay {
-    fn fmt<W: fmt::Write>(&self, f: &mut fmt::Formatter<W>) -> fmt::Result {
-        match *self {
-            Cause::UnknownWord => f.write_str(
-                "the first word is none of tray, hash, blocks and sim",
-            ),
-            Cause::WordCount(word) => write!(f, "wrong number of words ({word})"),
-            Cause::NotANumber(number) => write!(f, "{number} is not written in decimal digits"),
-            Cause::OutOfRange(number) => out_of_range(f, number),
-            Cause::IdentityLength => f.write_str("identity is not 6 to 20 digits long"),
-            Cause::IdentityDigit => f.write_str("identity has something else than decimal digits"),
-            Cause::UnknownHash => f.write_str("unknown hash (siphash)"),
-            Cause::KeyLength => f.write_str("key is not 32 hexadecimal digits long"),
-            Cause::KeyDigit => f.write_str("key has something else than hexadecimal digits"),
-            Cause::Missing(header) => write!(f, "{header} is missing"),
-            Cause::Repeated(header) => write!(f, "{header} stands twice"),
-            Cause::Late(header) => write!(f, "{header} stands after the first sim"),
-            Cause::TooManySims => f.write_str("more SIMs than blocks"),
-        }
+// What is wrong with a line.
+fn text(cause: Cause) -> &'static str {
+    match cause {
+        Cause::UnknownWord => "the first word is none of tray, hash, blocks and sim",
+        Cause::WordCount(Keyword::Tray) => "wrong number of words (tray NUMBER)",
+        Cause::WordCount(Keyword::Hash) => "wrong number of words (hash siphash KEY)",
+        Cause::WordCount(Keyword::Blocks) => "wrong number of words (blocks NUMBER)",
+        Cause::WordCount(Keyword::Sim) =>
+            "wrong number of words (sim IDENTITY KEY-INDEX SEQUENCE-NUMBER)",
+        Cause::NotANumber(Number::Tray) => "tray number is not written in decimal digits",
+        Cause::NotANumber(Number::Blocks) => "number of blocks is not written in decimal digits",
+        Cause::NotANumber(Number::KeyIndex) => "key index is not written in decimal digits",
+        Cause::NotANumber(Number::Sequence) => "sequence number is not written in decimal digits",
+        Cause::OutOfRange(Number::Tray) => "tray number out of range (1 to 4294967295)",
+        Cause::OutOfRange(Number::Blocks) => "number of blocks out of range (1 to 4096)",
+        Cause::OutOfRange(Number::KeyIndex) => "key index out of range (0 to 65535)",
+        Cause::OutOfRange(Number::Sequence) =>
+            "sequence number out of range (0 to 281474976710655)",
+        Cause::IdentityLength => "identity is not 6 to 20 digits long",
+        Cause::IdentityDigit => "identity has something else than decimal digits",
+        Cause::UnknownHash => "unknown hash (siphash)",
+        Cause::KeyLength => "key is not 32 hexadecimal digits long",
+        Cause::KeyDigit => "key has something else than hexadecimal digits",
+        Cause::Missing(Header::Tray) => "tray is missing",
+        Cause::Missing(Header::Hash) => "hash is missing",
+        Cause::Missing(Header::Blocks) => "blocks is missing",
+        Cause::Repeated(Header::Tray) => "tray stands twice",
+        Cause::Repeated(Header::Hash) => "hash stands twice",
+        Cause::Repeated(Header::Blocks) => "blocks stands twice",
+        Cause::Late(Header::Tray) => "tray stands after the first sim",
+        Cause::Late(Header::Hash) => "hash stands after the first sim",
+        Cause::Late(Header::Blocks) => "blocks stands after the first sim",
+        Cause::TooManySims => "more SIMs than blocks",
     }
 }
 
@@ -83,7 +48,7 @@ pub impl fmt::Display for Cause as CauseDisplay {
 pub impl fmt::Display for SheetError as SheetErrorDisplay {
     fn fmt<W: fmt::Write>(&self, f: &mut fmt::Formatter<W>) -> fmt::Result {
         match *self {
-            SheetError::Bad { line, cause } => write!(f, "line {line}: {cause}"),
+            SheetError::Bad { line, cause } => write!(f, "line {line}: {}", text(cause)),
             SheetError::NoMemory => f.write_str("out of memory"),
         }
     }
