@@ -10,12 +10,8 @@ use crate::cause::Cause;
 fn hex_digit(b: u8) -> Option<u8>
     ensures { λ r. ⌜ BySome r (16 ≤ digitValue b) (λ d. (d ≡ digitValue b) × (d < 16)) ⌝ }
 {
-    match b {
-        b'0'..=b'9' => Some(b - b'0'),
-        b'A'..=b'F' => Some(b - b'A' + 10),
-        b'a'..=b'f' => Some(b - b'a' + 10),
-        _ => None,
-    }
+    let digit = char::from(b).to_digit(16)?;
+    Some(digit as u8)
 }
 
 // 16 bytes, written as 32 hexadecimal digits.

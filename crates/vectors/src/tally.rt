@@ -8,14 +8,14 @@ ghost use Rattle.vectors.specs.First.{first-fault};
 use std::fmt;
 
 // Why a line does not count as one that agrees.
-#[derive(Clone, Copy, Debug, PartialEq, Eq)]
+#[derive(Clone, Copy)]
 pub(crate) enum Problem {
     Disagrees,
     Unreadable,
 }
 
 // A line, counted from 1, and what is wrong with it.
-#[derive(Clone, Copy, Debug, PartialEq, Eq)]
+#[derive(Clone, Copy)]
 pub(crate) struct Fault {
     line: usize,
     problem: Problem,
@@ -24,10 +24,11 @@ pub(crate) struct Fault {
 pub(crate) impl fmt::Display for Fault as FaultDisplay {
     fn fmt<W: fmt::Write>(&self, f: &mut fmt::Formatter<W>) -> fmt::Result {
         let line = self.line;
-        match self.problem {
-            Problem::Disagrees => write!(f, "line {line} disagrees"),
-            Problem::Unreadable => write!(f, "line {line} cannot be read"),
-        }
+        let what = match self.problem {
+            Problem::Disagrees => "disagrees",
+            Problem::Unreadable => "cannot be read",
+        };
+        write!(f, "line {line} {what}")
     }
 }
 
