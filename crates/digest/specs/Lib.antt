@@ -1,3 +1,3 @@
 pub mod Cell
+pub mod CellLaw
 pub mod SipHash
-pub mod Words

@@ -2,7 +2,7 @@
 ghost use Rattle.std.specs.Prelude.{◌≡◌, ◌-◌, ◌%◌, ◌<◌, [], ◌∷◌, ◌++◌, length, replicate};
 ghost use Rattle.std.proofs.Math.Path.{refl};
 ghost use Rattle.digest.specs.SipHash.{SipRound, compress, finalize, initial, sip_cell, siphash_2_4, word};
-ghost use Rattle.digest.specs.Words.{bytes_cell};
+ghost use Rattle.digest.specs.CellLaw.{bytes_cell};
 ghost use Rattle.std.proofs.Common.{rules};
 
 use crate::hash::Hash;

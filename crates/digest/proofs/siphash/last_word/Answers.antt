@@ -1,7 +1,7 @@
 use Rattle.std.proofs.Common.{◌%◌, ap, ◌∙◌}
 use native.Mathlib.Nat.{sub-zero}
 use Rattle.digest.specs.SipHash.{word}
-use Rattle.digest.specs.Words.{padded}
+use Rattle.digest.proofs.Words.{padded}
 use Rattle.digest.proofs.siphash.last_word.Goals as goal
 
 pub returns : goal.returns

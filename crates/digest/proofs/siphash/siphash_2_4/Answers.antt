@@ -1,8 +1,8 @@
-use Rattle.std.proofs.Common.{[], map, fold}
+use Rattle.std.proofs.Common.{[]}
 use Rattle.std.proofs.lemmas.List.{take_all}
 use Rattle.std.proofs.lemmas.List.Sums.{fold_push}
 use Rattle.digest.specs.SipHash.{compress, initial, word, siphash_2_4, whole_words, last_word}
-use Rattle.digest.specs.Words.{folded_map_more}
+use Rattle.digest.proofs.Words.{folded_map_more}
 use Rattle.digest.proofs.siphash.siphash_2_4.Goals as goal
 
 pub loop-chunk-preserved : goal.loop-chunk-preserved

@@ -1,5 +1,5 @@
 use Rattle.std.proofs.Common.{◌∙◌, rules}
-use Rattle.digest.specs.Words.{word_of_eight}
+use Rattle.digest.proofs.Words.{word_of_eight}
 use Rattle.digest.proofs.siphash.word_of.Goals as goal
 
 pub returns : goal.returns

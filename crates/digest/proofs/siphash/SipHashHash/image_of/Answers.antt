@@ -1,5 +1,5 @@
 use Rattle.digest.specs.SipHash.{sip_cell}
-use Rattle.digest.specs.Words.{eight_bytes}
+use Rattle.digest.proofs.Words.{eight_bytes}
 use Rattle.digest.proofs.siphash.SipHashHash.image_of.Goals as goal
 
 pub returns : goal.returns

@@ -1,6 +1,6 @@
 use Rattle.std.proofs.Common.{◌≡◌, length, ◌∙◌, rules}
 use Rattle.digest.specs.SipHash.{initial, k0, k1}
-use Rattle.digest.specs.Words.{halves}
+use Rattle.digest.proofs.Words.{halves}
 use Rattle.digest.proofs.siphash.State.new.Goals as goal
 
 pub returns : goal.returns

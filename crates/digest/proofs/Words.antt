@@ -1,12 +1,10 @@
 -- Laws of words, of their bytes, and of the last word of a message.
-use Rattle.std.specs.Prelude.{◌≡◌, ℕ, zero, suc, ◌+◌, ◌-◌, ◌*◌, ◌/◌, ◌%◌, ◌<◌, ◌≤◌, List, [], ◌∷◌, ◌++◌, map, length, take, drop, set, replicate, fold, slice_index, slice_index_or, slice_set, refl}
-use Rattle.std.proofs.Common.{sym, ap, ◌∙◌, ⊎_elim, append_assoc, arith, length-append}
+use Rattle.std.specs.Prelude.{◌≡◌, ℕ, ◌+◌, ◌-◌, ◌*◌, ◌/◌, ◌%◌, ◌<◌, ◌≤◌, List, [], ◌∷◌, ◌++◌, map, length, take, drop, set, replicate, fold, slice_index, slice_index_or, slice_set}
+use Rattle.std.proofs.Common.{sym, ap, ◌∙◌, append_assoc, arith, length-append}
 use Rattle.std.proofs.Math.Nat.{div-div-eq-div-mul}
 use Rattle.std.specs.Simd.{first_chunks}
-use Rattle.std.proofs.lemmas.List.{drop_more, drop_all, set_at, replicate_more, drop-replicate, map_more, get_or_append_left, length-replicate}
+use Rattle.std.proofs.lemmas.List.{drop_more, drop_all, set_at, replicate_more, drop-replicate, map_more, length-replicate}
 use Rattle.std.proofs.lemmas.List.Sums.{fold_push}
-use Rattle.std.proofs.str.Laws.{order}
-use Rattle.digest.specs.Cell.{IsCell}
 use Rattle.digest.specs.SipHash.{word, bytes, k0, k1}
 
 -- a word is its lowest byte, and 256 times the word above
@@ -78,36 +76,3 @@ pub folded_map_more
     → fold f a (map g (take (i + 1) xs)) ≡ f (fold f a (map g (take i xs))) (g (slice_index_or xs i d))
 folded_map_more f g a xs i d h =
     ap (fold f a) (map_more g xs i d h) ∙ fold_push f a (map g (take i xs)) (g (slice_index_or xs i d))
-
--- each byte of a number is one
-pub bytes_lt : (n x i : ℕ) → slice_index (bytes n x) i < 256
-unfolding bytes
-bytes_lt zero x i = omega arith
-bytes_lt (suc n) x zero = omega arith
-bytes_lt (suc n) x (suc i) = bytes_lt n (x / 256) i
-
-pub length-bytes : (n x : ℕ) → length (bytes n x) ≡ n
-unfolding bytes
-length-bytes zero x = refl
-length-bytes (suc n) x = ap suc (length-bytes n (x / 256))
-
--- zeros past the end of a list
-pub zeros_past : (xs : List ℕ) (n i : ℕ) → length xs ≤ i → slice_index (xs ++ replicate n 0) i ≡ 0
-zeros_past [] zero i h = refl
-zeros_past [] (suc n) zero h = refl
-zeros_past [] (suc n) (suc i) h = zeros_past [] n i (omega arith)
-zeros_past (x ∷ xs) n zero h = absurd (omega arith)
-zeros_past (x ∷ xs) n (suc i) h = zeros_past xs n i (omega arith)
-
--- k bytes and then zeros are the cell of a hash of k bytes
-pub bytes_cell : (k n x : ℕ) → k + n ≡ 32 → IsCell k (bytes k x ++ replicate n 0)
-bytes_cell k n x h =
-    let long = length-bytes k x in
-    record {
-      long = simp (length-append, length-replicate) (omega arith);
-      bytes = λ i. ⊎_elim
-          (λ below. rw (get_or_append_left (bytes k x) (replicate n 0) 0 i (omega arith)) (bytes_lt k x i))
-          (λ past. omega (arith, zeros_past (bytes k x) n i (omega arith)))
-          (order i k);
-      zero_tail = λ i past. zeros_past (bytes k x) n i (omega arith);
-    }
