@@ -1,4 +1,5 @@
 // One SIM: who it is, and its 512-byte block.
+#![tactic(auto)]
 ghost use Rattle.std.specs.Prelude.{◌^◌, ◌<◌};
 
 use crate::identity::Identity;

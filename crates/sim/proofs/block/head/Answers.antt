@@ -5,8 +5,8 @@ use Rattle.sim.specs.Block.{sim_head, little_endian}
 use Rattle.sim.proofs.Bytes.{put_after, little_4, little_8}
 use Rattle.sim.proofs.block.head.Goals as goal
 
-pub slice-bounds-bytes-end-2 : goal.slice-bounds-bytes-end-2
-slice-bounds-bytes-end-2 c = search (rules, places)
+pub slice_bounds-bytes-end-2 : goal.slice_bounds-bytes-end-2
+slice_bounds-bytes-end-2 c = search (rules, places)
 
 two : (d k : List ℕ) → length d ≡ 20 → length k ≡ 4 → put_mid 20 4 (d ++ replicate 12 0) k ≡ d ++ (k ++ replicate 8 0)
 two d k long wide = put_after d k 20 4 8 long wide
@@ -19,8 +19,8 @@ three d k s long wide more =
     let both : length (d ++ k) ≡ 24 = simp length-append (omega arith) in
     ap (λ xs. put_mid 24 8 xs s) (two d k long wide ∙ sym (append_assoc d k (replicate 8 0))) ∙ put_after (d ++ k) s 24 8 0 both more ∙ ap (λ xs. (d ++ k) ++ xs) (append-nil s) ∙ append_assoc d k s
 
-pub slice-bounds-bytes-end-3 : goal.slice-bounds-bytes-end-3
-slice-bounds-bytes-end-3 c = two_long c.copy_from_slice.new.self c.copy_from_slice-2.new.self (search rules) (search rules)
+pub slice_bounds-bytes-end-3 : goal.slice_bounds-bytes-end-3
+slice_bounds-bytes-end-3 c = two_long c.copy_from_slice.new.self c.copy_from_slice-2.new.self (search rules) (search rules)
 
 pub returns : goal.returns
 unfolding sim_head

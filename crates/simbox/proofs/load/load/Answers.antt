@@ -4,26 +4,26 @@ use Rattle.sim.specs.Block.{sim_block}
 use Rattle.tree.specs.Layout.{zero_block}
 use Rattle.simbox.proofs.Loaded.{not_refused, loaded_none, loaded_more, loaded_length, loaded_all}
 use Rattle.simbox.proofs.load.load.Goals as goal
-use Rattle.simbox.proofs.load.load.Goals.{In-ok-contents}
+use Rattle.simbox.proofs.load.load.Goals.{In_ok-contents}
 
 -- the contents have as many blocks as the geometry says
-size : (c : In-ok-contents) → vec_len c.in-ok-contents.contents.blocks ≡ c.args.geometry.blocks
-size c = c.in-ok-contents.contents.blocks.ok.0 ∙ ap length c.in-ok-contents.ensures ∙ length-replicate c.args.geometry.blocks zero_block
+size : (c : In_ok-contents) → vec_len c.in_ok-contents.contents.blocks ≡ c.args.geometry.blocks
+size c = c.in_ok-contents.contents.blocks.ok.0 ∙ ap length c.in_ok-contents.ensures ∙ length-replicate c.args.geometry.blocks zero_block
 
-room : (c : In-ok-contents) → length c.args.sims.now ≤ vec_len c.in-ok-contents.contents.blocks
+room : (c : In_ok-contents) → length c.args.sims.now ≤ vec_len c.in_ok-contents.contents.blocks
 room c = omega (arith, size c, c.requires)
 
 pub loop-k-init : goal.loop-k-init
 loop-k-init c =
-    loaded_none sim_block zero_block c.args.sims.now (vec_len c.in-ok-contents.contents.blocks) (room c) (vec_items c.in-ok-contents.contents.blocks)
-    (c.in-ok-contents.ensures ∙ ap (λ n. replicate n zero_block) (sym (size c)))
+    loaded_none sim_block zero_block c.args.sims.now (vec_len c.in_ok-contents.contents.blocks) (room c) (vec_items c.in_ok-contents.contents.blocks)
+    (c.in_ok-contents.ensures ∙ ap (λ n. replicate n zero_block) (sym (size c)))
 
 pub loop-k-preserved : goal.loop-k-preserved
 loop-k-preserved c =
     let sims = c.args.sims.now in
     let k = c.loop-k.k in
-    let n = vec_len c.in-ok-contents.contents.blocks in
-    let fits = room (goal.at.loop-k-preserved c).In-ok-contents in
+    let n = vec_len c.in_ok-contents.contents.blocks in
+    let fits = room (goal.at.loop-k-preserved c).In_ok-contents in
     let before = c.loop-k.contents.blocks in
     let after = c.put.new.self.blocks in
     let long = loaded_length sim_block zero_block sims n fits k (vec_items before) (omega (arith, c.loop-k-test.true)) c.loop-k.invariant in
@@ -33,8 +33,8 @@ loop-k-preserved c =
 
 pub returns : goal.returns
 returns c =
-    let e = size (goal.at.returns c).In-ok-contents in
+    let e = size (goal.at.returns c).In_ok-contents in
     let sims = c.args.sims.now in
-    loaded_all sim_block zero_block sims (vec_len c.in-ok-contents.contents.blocks) (room (goal.at.returns c).In-ok-contents) c.loop-k.k (vec_items c.loop-k.contents.blocks)
+    loaded_all sim_block zero_block sims (vec_len c.in_ok-contents.contents.blocks) (room (goal.at.returns c).In_ok-contents) c.loop-k.k (vec_items c.loop-k.contents.blocks)
     (omega (arith, c.loop-k-test.false, c.loop-k.auto.k-end)) c.loop-k.invariant
     ∙ ap (λ n. map sim_block sims ++ replicate (n - length sims) zero_block) e

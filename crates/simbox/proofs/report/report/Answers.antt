@@ -24,9 +24,9 @@ returns g c =
     let held : map sim_block sims ≡ c.split_at.result.0.now =
     sym (c.split_at.ensures.front ∙ (λ i. take (count i) ((c.as_slice.ensures.value ∙ c.requires) i)) ∙ volume_sims sims blocks room) in
     let size : c.geometry.result.blocks ≡ blocks = c.geometry.ensures ∙ c.args.contents.now.blocks.ok.0 ∙ ap length c.requires ∙ volume_length sims blocks room in
-    let root : c.in-ok-tree.tree.root ≡ root_of image (volume_of sims blocks) = c.in-ok-tree.ensures.layout.1 ∙ ap (root_of image) c.requires in
-    reported sims blocks room g.H.Hash.number image sheet.tray.value c.geometry.result.blocks c.kind_number.result c.in-ok-tree.tree.root
-    (string_bytes c.in-ok-text.text) (string_bytes c.write_sims.new.text) (string_bytes c.write_tree.new.text) size c.kind_number.ensures root
-    (c.in-ok-text.ensures ∙ (λ i. head_line sheet.tray.value (count i) sheet.blocks.value))
-    (c.in-ok-write_sims.ensures sims held)
-    c.in-ok-write_tree.ensures
+    let root : c.in_ok-tree.tree.root ≡ root_of image (volume_of sims blocks) = c.in_ok-tree.ensures.layout.1 ∙ ap (root_of image) c.requires in
+    reported sims blocks room g.H.Hash.number image sheet.tray.value c.geometry.result.blocks c.kind_number.result c.in_ok-tree.tree.root
+    (string_bytes c.in_ok-text.text) (string_bytes c.write_sims.new.text) (string_bytes c.write_tree.new.text) size c.kind_number.ensures root
+    (c.in_ok-text.ensures ∙ (λ i. head_line sheet.tray.value (count i) sheet.blocks.value))
+    (c.in_ok-write_sims.ensures sims held)
+    c.in_ok-write_tree.ensures

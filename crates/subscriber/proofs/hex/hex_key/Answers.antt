@@ -6,14 +6,14 @@ use Rattle.subscriber.proofs.hex.hex_key.Goals as goal
 pub returns-then-word-ne32 : goal.returns-then-word-ne32
 returns-then-word-ne32 c = sym (key_wrong_length c.args.word.now c.if-word-ne32.true)
 
-pub returns-in-default : goal.returns-in-default
-returns-in-default c =
-    let bad = bad_high c.args.word.now c.loop-i.i (omega arith) c.in-default.ensures in
+pub returns-in_default : goal.returns-in_default
+returns-in_default c =
+    let bad = bad_high c.args.word.now c.loop-i.i (omega arith) c.in_default.ensures in
     sym (key_wrong_digit c.args.word.now c.if-word-ne32.false (sym c.loop-i.invariant.1 ∙ bad))
 
-pub returns-in-default-hex_digit : goal.returns-in-default-hex_digit
-returns-in-default-hex_digit c =
-    let bad = bad_low c.args.word.now c.loop-i.i (omega arith) c.in-default-hex_digit.ensures in
+pub returns-in_default-hex_digit : goal.returns-in_default-hex_digit
+returns-in_default-hex_digit c =
+    let bad = bad_low c.args.word.now c.loop-i.i (omega arith) c.in_default-hex_digit.ensures in
     sym (key_wrong_digit c.args.word.now c.if-word-ne32.false (sym c.loop-i.invariant.1 ∙ bad))
 
 pub loop-i-preserved : goal.loop-i-preserved

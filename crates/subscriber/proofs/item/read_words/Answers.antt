@@ -12,11 +12,11 @@ returns-then-is_empty c =
     let none = eqb-true _ 0 (sym c.if-is_empty.ensures) in
     sym (said_none _ (words_none c.args.line.now (sym (ap length c.cut_word-first.ensures.first) ∙ none)))
 
-pub returns-in-default : goal.returns-in-default
-returns-in-default c =
+pub returns-in_default : goal.returns-in_default
+returns-in_default c =
     let some = eqb-false _ 0 (sym c.if-is_empty.ensures) in
     let told = said_first (words c.args.line.now) _ _ c.cut_word-first.ensures.first c.cut_word-first.ensures.others (omega arith) in
-    sym (told ∙ ap (λ k. after k (words c.cut_word-first.result.rest.now)) (sym c.in-default.ensures))
+    sym (told ∙ ap (λ k. after k (words c.cut_word-first.result.rest.now)) (sym c.in_default.ensures))
 
 pub returns-in-Tray : goal.returns-in-Tray
 returns-in-Tray c =

@@ -5,9 +5,9 @@ use Rattle.subscriber.proofs.number.number.Goals as goal
 pub returns-then-not-is_decimal : goal.returns-then-not-is_decimal
 returns-then-not-is_decimal c = record { value = sym (number_not c.args.what c.args.word.now (sym c.if-not-is_decimal.ensures)); ranged = tt }
 
-pub returns-in-default : goal.returns-in-default
-returns-in-default c = record {
-  value = sym (number_high c.args.what c.args.word.now (sym c.if-not-is_decimal.ensures) (omega (arith, c.in-default.ensures, c.most.ensures.value)));
+pub returns-in_default : goal.returns-in_default
+returns-in_default c = record {
+  value = sym (number_high c.args.what c.args.word.now (sym c.if-not-is_decimal.ensures) (omega (arith, c.in_default.ensures, c.most.ensures.value)));
   ranged = tt;
 }
 

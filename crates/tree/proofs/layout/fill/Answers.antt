@@ -26,8 +26,8 @@ lay_level-requires g c =
           (none_laid (g.H.Hash.image c.args.hash.now) n c.args.contents.now size least most c.start_of.result c.start_of.ensures);
     }
 
-pub overflow-sub-level-end : goal.overflow-sub-level-end
-overflow-sub-level-end g c = omega (arith, levels_least c.args.geometry.blocks c.args.geometry.least c.args.geometry.most, c.levels-level-end.ensures)
+pub overflow_sub-level-end : goal.overflow_sub-level-end
+overflow_sub-level-end g c = omega (arith, levels_least c.args.geometry.blocks c.args.geometry.least c.args.geometry.most, c.levels-level-end.ensures)
 
 pub loop-level-init : goal.loop-level-init
 loop-level-init g c =

@@ -4,18 +4,18 @@ use Rattle.vectors.specs.Hex.{unhex}
 use Rattle.vectors.proofs.Cuts.{no_space, no_number, no_hex, says}
 use Rattle.vectors.proofs.sip.read.Goals as goal
 
-pub returns-in-default : goal.returns-in-default
-returns-in-default c = no_space _ c.in-default.ensures.cases
+pub returns-in_default : goal.returns-in_default
+returns-in_default c = no_space _ c.in_default.ensures.cases
 
-pub returns-in-default-parse : goal.returns-in-default-parse
-returns-in-default-parse c = no_number _ c.in-Some.length c.in-Some.hash c.in-Some.ensures.cases c.in-default-parse.ensures.reads.0
+pub returns-in_default-parse : goal.returns-in_default-parse
+returns-in_default-parse c = no_number _ c.in-Some.length c.in-Some.hash c.in-Some.ensures.cases c.in_default-parse.ensures.reads.0
 
 pub returns-in-Some-2 : goal.returns-in-Some-2
 returns-in-Some-2 c =
-    let hex = ap (option_map vec_items) (sym c.in-Some-2.is) ∙ c.in-ok-hash.ensures ∙ ap unhex c.as_bytes.ensures.value in
+    let hex = ap (option_map vec_items) (sym c.in-Some-2.is) ∙ c.in_ok-hash.ensures ∙ ap unhex c.as_bytes.ensures.value in
     says _ c.in-Some.length c.in-Some.hash c.in-Some.ensures.cases _ _ c.in-Ok.ensures.reads.0 hex
 
 pub returns-in-None : goal.returns-in-None
 returns-in-None c =
-    let hex = ap (option_map vec_items) (sym c.in-None.is) ∙ c.in-ok-hash.ensures ∙ ap unhex c.as_bytes.ensures.value in
+    let hex = ap (option_map vec_items) (sym c.in-None.is) ∙ c.in_ok-hash.ensures ∙ ap unhex c.as_bytes.ensures.value in
     no_hex _ c.in-Some.length c.in-Some.hash c.in-Some.ensures.cases hex

@@ -18,11 +18,11 @@ loop-i-preserved c =
     let line = c.in-Some.line.now in
     let is = tested line _ (starts_char 35 line _ c.starts_with.ensures.cases (lit< tt) (lit< tt)) ∙ c.if-starts_with.false in
     let now = c.loop-i.tally in
-    let problem = c.in-ok-problem_of.field-0 in
+    let problem = c.in_ok-problem_of.field-0 in
     let fault = c.add.ensures.fault ∙ ap (λ i. first_fault now.fault (i + 1) problem) step.1 in
     let next =
     count _ _ _ now c.loop-i.invariant.3 line _ _ problem c.add.new.self step.2 step.0.0.0 step.0.0.2 is
-    c.in-ok-problem_of.ensures c.add.ensures.total c.add.ensures.agree fault in
+    c.in_ok-problem_of.ensures c.add.ensures.total c.add.ensures.agree fault in
     (search rules, tt, search rules, next)
 
 pub returns : goal.returns

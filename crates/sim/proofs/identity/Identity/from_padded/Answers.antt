@@ -17,7 +17,7 @@ returns-then-n-lt6 c =
       | then-n-lt6-via-else-n-lt6+then-not-is_zero w ↦ tail (tested c.args.digits c.digit_run-n.result _ (search rules) w.if-not-is_zero.ensures)
     ]
 
-pub invariant-of-result : goal.invariant-of-result
-invariant-of-result c =
+pub invariant_of-result : goal.invariant_of-result
+invariant_of-result c =
     let zeros = tested c.args.digits c.digit_run-n.result _ (search rules) c.if-not-is_zero.ensures in
     (padded_yes c.args.digits c.digit_run-n.result (search rules) c.digit_run-n.ensures.value c.if-n-lt6.false zeros, tt)

@@ -3,11 +3,11 @@ use Rattle.std.proofs.lemmas.Nat.{shr_le}
 use Rattle.tree.proofs.Numbers.{level_few, above_most, place_shifted}
 use Rattle.tree.proofs.geometry.Geometry.place_of.Goals as goal
 
-pub overflow-mul-level : goal.overflow-mul-level
-overflow-mul-level c = let g = c.args.self.now in record { fits = omega (arith, level_few g.blocks c.args.level g.least g.most c.requires.0) }
+pub overflow_mul-level : goal.overflow_mul-level
+overflow_mul-level c = let g = c.args.self.now in record { fits = omega (arith, level_few g.blocks c.args.level g.least g.most c.requires.0) }
 
-pub overflow-shr-block : goal.overflow-shr-block
-overflow-shr-block c = let g = c.args.self.now in omega (arith, level_few g.blocks c.args.level g.least g.most c.requires.0)
+pub overflow_shr-block : goal.overflow_shr-block
+overflow_shr-block c = let g = c.args.self.now in omega (arith, level_few g.blocks c.args.level g.least g.most c.requires.0)
 
 pub cell_of-requires : goal.cell_of-requires
 cell_of-requires c =

@@ -3,8 +3,8 @@ use Rattle.tree.specs.Geometry.{lower, levels, total}
 use Rattle.tree.proofs.Numbers.{levels_most, lower_most, width_most}
 use Rattle.tree.proofs.geometry.Geometry.upper_blocks.Goals as goal
 
-pub overflow-add-sum : goal.overflow-add-sum
-overflow-add-sum c =
+pub overflow_add-sum : goal.overflow_add-sum
+overflow_add-sum c =
     let g = c.args.self.now in
     let higher = c.loop-higher.higher in
     let few = levels_most g.blocks g.least g.most in

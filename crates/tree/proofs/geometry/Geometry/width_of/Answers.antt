@@ -5,14 +5,14 @@ use Rattle.tree.proofs.geometry.Geometry.width_of.Goals as goal
 few : (c : goal.Start) → c.args.level < 3
 few c = let g = c.args.self.now in omega (arith, levels_most g.blocks g.least g.most, c.requires)
 
-pub overflow-mul-result : goal.overflow-mul-result
-overflow-mul-result c = record { fits = omega (arith, few c) }
+pub overflow_mul-result : goal.overflow_mul-result
+overflow_mul-result c = record { fits = omega (arith, few c) }
 
-pub overflow-add-result : goal.overflow-add-result
-overflow-add-result c = record { fits = omega (arith, few c) }
+pub overflow_add-result : goal.overflow_add-result
+overflow_add-result c = record { fits = omega (arith, few c) }
 
-pub overflow-shr-result : goal.overflow-shr-result
-overflow-shr-result c = omega (arith, few c)
+pub overflow_shr-result : goal.overflow_shr-result
+overflow_shr-result c = omega (arith, few c)
 
 pub returns : goal.returns
 returns c = let g = c.args.self.now in width_shifted g.blocks c.args.level g.least

@@ -9,7 +9,7 @@ pub returns : goal.returns
 returns c =
     let told = slice_eq-Decides _ _ _ c.eq.ensures in
     let left = c.as_slice-2.ensures.value in
-    let message = c.as_slice.ensures.value ∙ c.in-ok-message.ensures in
+    let message = c.as_slice.ensures.value ∙ c.in_ok-message.ensures in
     let hash = c.siphash_2_4.ensures ∙ ap (siphash_2_4 (range_with_len 0 16)) message in
     let right = c.as_slice-3.ensures ∙ c.to_le_bytes-hash.ensures ∙ eight_bytes c.siphash_2_4.result ∙ ap (bytes 8) hash in
     (λ t. sym left ∙ told.0 t ∙ right, λ e. told.1 (left ∙ e ∙ sym right))
