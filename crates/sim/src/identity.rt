@@ -1,7 +1,9 @@
 // The identity of a SIM: an IMSI or an ICCID.
-ghost use Rattle.std.specs.Prelude.{◌≡◌, ◌≤◌, true, false, length, Some, Decides, MatchOption};
+ghost use Rattle.std.specs.Prelude.{◌≡◌, ◌≤◌, true, false, length, Some, Decides, MatchOption, ◌==◌};
 ghost use Rattle.sim.specs.Identity.{all_zero, digit_run, is_padded, is_identity, padded, unpadded};
 ghost use Rattle.std.specs.Cmp.Rules.{comparing};
+ghost use Rattle.std.specs.Ordering.{on};
+ghost use Rattle.std.specs.Cmp.Lexicographic.{pointwise};
 ghost use Rattle.std.proofs.Common.{rules};
 
 use std::fmt;
@@ -84,7 +86,10 @@ impl PartialEq for Identity {
 
     ghost laws = { Prim.search (comparing, rules) };
 
-    fn eq(&self, other: &Identity) -> bool {
+    fn eq(&self, other: &Identity) -> bool
+        ensures same { Decides result (self.now.digits ≡ other.now.digits) }
+        ensures value { result ≡ pointwise ◌==◌ self.now.digits other.now.digits }
+    {
         other.digits == self.digits
     }
 }

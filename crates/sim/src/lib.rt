@@ -1,5 +1,6 @@
 // One SIM: who it is, and its 512-byte block.
 #![tactic(auto)]
+
 ghost use Rattle.std.specs.Prelude.{◌^◌, ◌<◌};
 
 use crate::identity::Identity;

@@ -1,4 +1,4 @@
-use Rattle.std.proofs.Common.{[], ◌++◌, replicate, refl, ap, ◌∙◌, rules}
+use Rattle.std.proofs.Common.{[], ◌++◌, replicate, refl, ap, ◌∙◌}
 use Rattle.sim.specs.Block.{sim_block}
 use Rattle.sim.proofs.Bytes.{put_after}
 use Rattle.sim.proofs.block.encode.Goals as goal

@@ -20,4 +20,4 @@ returns-then-n-lt6 c =
 pub invariant_of-result : goal.invariant_of-result
 invariant_of-result c =
     let zeros = tested c.args.digits c.digit_run-n.result _ (search rules) c.if-not-is_zero.ensures in
-    (padded_yes c.args.digits c.digit_run-n.result (search rules) c.digit_run-n.ensures.value c.if-n-lt6.false zeros, tt)
+    record { ok = padded_yes c.args.digits c.digit_run-n.result (search rules) c.digit_run-n.ensures.value c.if-n-lt6.false zeros }
