@@ -12,7 +12,7 @@ use Rattle.subscriber.specs.declared.sheet.Sheet.{Sheet}
 use Rattle.subscriber.specs.Answer.{Answers, plain_sheet}
 use Rattle.subscriber.specs.Plain.{entry_of}
 use Rattle.subscriber.specs.Items.{Entry, Said, nothing, tray_is, hash_is, blocks_are, sim_is, line_says}
-use Rattle.subscriber.specs.Sheet.{Draft, Whole, empty, whole_of, whole, allowed, add, next, after_line, at_line, read_from, sheet_of, picked, gathered, a_tray, a_hash, a_count, a_sim, Listed}
+use Rattle.subscriber.specs.Sheet.{Draft, Whole, empty, whole_of, whole, add, next, after_line, at_line, read_from, sheet_of, picked, gathered, a_tray, a_hash, a_count, a_sim, Listed}
 use Rattle.subscriber.specs.Text.{lines}
 use Rattle.subscriber.proofs.Sheets.{err_not_ok, same_ok, then_made, with_made}
 

@@ -13,7 +13,7 @@ use Rattle.subscriber.specs.declared.tray.HashChoice.{HashChoice}
 use Rattle.subscriber.specs.Answer.{draft_of, whole_with, Room}
 use Rattle.subscriber.specs.Items.{Entry, Said, nothing, tray_is, hash_is, blocks_are, sim_is, with_ok, then_ok, line_says}
 use Rattle.subscriber.specs.Plain.{entry_of}
-use Rattle.subscriber.specs.Sheet.{Draft, Whole, whole_of, whole, allowed, add, next, after_line, at_line, read_from, sheet_of}
+use Rattle.subscriber.specs.Sheet.{Draft, Whole, whole_of, whole, add, next, after_line, at_line, read_from, sheet_of}
 use Rattle.subscriber.specs.Text.{lines}
 
 pub err_not_ok : {A E : Type 0} (e : E) (x : A) → ◌≡◌ {A = Result A E} (Err e) (Ok x) → ⊥

@@ -1,5 +1,7 @@
 // The SIMs of a tray: one SIM as one 512-byte block and back, and the sheet that lists them. The SIM itself and its block stand in
 // the crate `sim`, and are passed on here.
+#![tactic(auto)]
+
 pub mod block_count;
 pub mod cause;
 mod headers;

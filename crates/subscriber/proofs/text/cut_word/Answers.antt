@@ -7,4 +7,4 @@ returns c =
     let one = c.split_at.ensures in
     let two = c.split_at-2.ensures in
     let told = word_parts _ _ _ _ _ _ c.run.ensures.value one.back c.run-2.ensures.value two.front two.back in
-    record { first = told.0; others = told.1; shorter = omega (arith, one.back_len, two.back_len, two.front-len) }
+    record { first = told.0; others = told.1; shorter = omega (arith, one.back_len, two.back_len, two.front_len) }
