@@ -1,12 +1,12 @@
 -- Cells packed into blocks: what one changed cell changes. Assumes nothing.
-use Rattle.std.proofs.Common.{◌≡◌, ℕ, zero, suc, ◌+◌, ◌-◌, ◌*◌, ◌/◌, ◌%◌, ◌<◌, ◌≤◌, ◌≢◌, List, [], ◌∷◌, ◌++◌, map, length, get_or, take, drop, set, replicate, sym, refl, ap, ◌∙◌, subst, ⊎_elim, append_assoc, le_of_suc-le-suc, arith, length-append, length-drop, length-set, length-take, take_at, drop-set-lt, drop_at}
+use Rattle.std.proofs.Common.{◌≡◌, ℕ, zero, suc, ◌+◌, ◌-◌, ◌*◌, ◌/◌, ◌%◌, ◌<◌, ◌≤◌, List, [], ◌∷◌, ◌++◌, length, get_or, take, drop, set, replicate, sym, refl, ap, ◌∙◌, ⊎_elim, append_assoc, le_of_suc-le-suc, arith, length-append, length-drop, length-set, length-take, drop-set-lt, drop_at}
 use lib.ListN.{length-replicate}
 use lib.Seq.{take-set-lt, take-set-le, drop-set-add, take-append-le, drop-append-le}
 use borrow.Rule.Slice.PartMut.{put_mid}
 use Rattle.std.proofs.lemmas.List.FromFn.{length-map-range_with_len, get_or-map-range_with_len}
 use Rattle.std.proofs.lemmas.List.{drop-drop, same_lists, get_or-set_same, get_or-set_other, get_or-replicate, take_all, take-replicate, drop-replicate, replicate-append-replicate, replicate_more}
 use Rattle.std.proofs.lemmas.Bool.{cases_lt, cases_order}
-use Rattle.std.specs.List.{range_with_len, flat_map}
+use Rattle.std.specs.List.{flat_map}
 use Rattle.tree.specs.Geometry.{up}
 use Rattle.tree.specs.Layout.{zero_block, side_by_side, pack, put_cell}
 

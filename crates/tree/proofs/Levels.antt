@@ -1,9 +1,9 @@
 -- A level filled cell by cell, and level upon level. Assumes nothing.
-use Rattle.std.proofs.Common.{◌≡◌, ℕ, zero, suc, ◌+◌, ◌-◌, ◌*◌, ◌/◌, ◌%◌, ◌<◌, ◌≤◌, List, [], ◌∷◌, ◌++◌, map, length, get_or, take, drop, set, replicate, sym, refl, ap, ◌∙◌, subst, ⊎_elim, append_assoc, append-nil, arith, length-append, length-drop, length-set, take-append-drop, length-take}
+use Rattle.std.proofs.Common.{◌≡◌, ℕ, suc, ◌+◌, ◌-◌, ◌/◌, ◌%◌, ◌<◌, ◌≤◌, List, [], ◌∷◌, ◌++◌, map, length, get_or, take, drop, set, replicate, sym, ap, ◌∙◌, subst, append_assoc, append-nil, arith, length-append, length-drop, take-append-drop}
 use lib.ListN.{length-replicate, length-map}
 use Rattle.std.proofs.lemmas.List.{get_or-map, get_or-take, drop-drop, set-append_left, set-append_right, get_or_append_left, get_or-append_right, get_or-drop, length-take-le, take_all, take_more, set_at}
-use Rattle.tree.specs.Geometry.{up, width, lower}
-use Rattle.tree.specs.Layout.{zero_block, pack, put_cell, level, stacked}
+use Rattle.tree.specs.Geometry.{up}
+use Rattle.tree.specs.Layout.{zero_block, pack, put_cell}
 use Rattle.tree.proofs.Cells.{Wide, wide_at, wide_take, wide_append, wide_replicate, length-pack, pack_set, pack_zeros, zero_cell, length-zero_cell}
 
 -- the first j cells, and zeros in place of the others

@@ -1,17 +1,16 @@
 -- The places of a data block lead up to the root. Assumes nothing.
-use Rattle.std.proofs.Common.{◌≡◌, ℕ, zero, suc, ◌+◌, ◌-◌, ◌*◌, ◌/◌, ◌%◌, ◌^◌, ◌<◌, ◌≤◌, List, [], ◌∷◌, ◌++◌, map, length, get_or, take, drop, replicate, sym, refl, ap, ◌∙◌, subst, ⊎_elim, le_trans, le_of_suc-le-suc, pow-suc, le-div_iff_mul-le, div-mul-le_self, div-one, add-one, arith, length-append, length-drop, length-take, pow_pos}
+use Rattle.std.proofs.Common.{◌≡◌, ℕ, zero, suc, ◌+◌, ◌-◌, ◌*◌, ◌/◌, ◌%◌, ◌^◌, ◌<◌, ◌≤◌, List, [], ◌∷◌, ◌++◌, map, length, get_or, take, drop, replicate, sym, ap, ◌∙◌, subst, ⊎_elim, le_trans, le_of_suc-le-suc, pow-suc, le-div_iff_mul-le, div-mul-le_self, div-one, add-one, arith, length-drop, length-take, pow_pos}
 use native.Mathlib.Nat.{div-div-eq-div-mul}
 use lib.ListN.{length-map}
-use Rattle.std.proofs.lemmas.List.{get_or_append_left, get_or-append_right, get_or-take, get_or-drop, get_or-map, get_or_default, take-append-le, drop-append-le, take_at}
+use Rattle.std.proofs.lemmas.List.{get_or_append_left, get_or-append_right, get_or-take, get_or-drop, get_or-map, take-append-le, drop-append-le, take_at}
 use Rattle.std.proofs.lemmas.Bool.{cases_lt}
-use Rattle.std.specs.List.{flat_map}
-use Rattle.tree.specs.Geometry.{up, width, levels, lower, total, above, start, place}
+use Rattle.tree.specs.Geometry.{width, levels, lower, total, above, start, place}
 use Rattle.tree.specs.Layout.{side_by_side, pack, level, stacked, tree_of, root_of}
 use Rattle.tree.specs.Paths.{cell_at, cell_of, Leads, LeadUp}
-use Rattle.tree.proofs.Cells.{Wide, flat, sixteen, wide_take, wide_drop, length-flat, drop_past, get_or-pack, length-pack}
+use Rattle.tree.proofs.Cells.{Wide, flat, sixteen, wide_take, wide_drop, length-flat, drop_past, get_or-pack}
 use Rattle.tree.proofs.Levels.{wide_images}
 use Rattle.tree.proofs.Numbers.{width_is, sixteens, lower_mono, start_top, top_width, levels_least}
-use Rattle.tree.proofs.Whole.{length-level, length-stacked}
+use Rattle.tree.proofs.Whole.{length-level}
 
 div_mono : (m n l : ℕ) → m ≤ n → m / 16 ^ l ≤ n / 16 ^ l
 div_mono m n l h =

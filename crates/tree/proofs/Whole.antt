@@ -1,11 +1,11 @@
 -- The whole tree, level upon level, in blocks that were zero. Assumes nothing.
-use Rattle.std.proofs.Common.{◌≡◌, ℕ, zero, suc, ◌+◌, ◌-◌, ◌<◌, ◌≤◌, List, [], ◌∷◌, ◌++◌, map, length, get_or, take, drop, replicate, sym, refl, ap, ◌∙◌, subst, append_assoc, append-nil, add-one, arith, length-append}
+use Rattle.std.proofs.Common.{◌≡◌, ℕ, zero, suc, ◌+◌, ◌-◌, ◌<◌, ◌≤◌, List, [], ◌++◌, map, length, get_or, take, drop, replicate, sym, refl, ap, ◌∙◌, subst, add-one, arith, length-append}
 use lib.ListN.{length-replicate, length-map}
 use Rattle.std.proofs.lemmas.List.{get_or_default, take_at, drop_at, take-append-le, drop-append-le, take-replicate, drop-replicate}
 use Rattle.tree.specs.Geometry.{up, width, levels, lower, total, start}
 use Rattle.tree.specs.Layout.{zero_block, pack, level, stacked, tree_of, root_of}
 use Rattle.tree.proofs.Cells.{length-pack}
-use Rattle.tree.proofs.Numbers.{total_split, total_most, start_split, start_next, start_top, levels_least, total_least}
+use Rattle.tree.proofs.Numbers.{total_split, total_most, start_split, start_next, start_top, total_least}
 
 module _ (image : List ℕ → List ℕ) (bs : List (List ℕ)) where
   pub length-level : (l : ℕ) → length (level image l bs) ≡ width (length bs) l

@@ -1,4 +1,6 @@
 // The hash tree over the blocks of a volume: its numbers, its layout, and the code that makes it.
+#![tactic(auto)]
+
 pub mod contents;
 pub mod geometry;
 pub mod layout;

@@ -1,4 +1,4 @@
-use Rattle.std.proofs.Common.{is_ok, vec_len, ap, arith}
+use Rattle.std.proofs.Common.{is_ok, ap, arith}
 use Rattle.std.proofs.ResultArms.{chosen}
 use Rattle.tree.specs.Layout.{zero_block}
 use Rattle.tree.proofs.Cells.{zeros_more}

@@ -1,4 +1,4 @@
-use Rattle.std.proofs.Common.{◌≡◌, suc, ◌+◌, ◌-◌, ◌<◌, ◌≤◌, length, take, drop, replicate, sym, ap, ◌∙◌, subst, arith}
+use Rattle.std.proofs.Common.{◌≡◌, suc, ◌+◌, ◌<◌, length, take, drop, replicate, sym, ap, ◌∙◌, subst, arith}
 use lib.ListN.{length-replicate}
 use Rattle.tree.specs.Geometry.{up, total, levels}
 use Rattle.tree.specs.Layout.{zero_block}

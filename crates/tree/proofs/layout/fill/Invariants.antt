@@ -1,4 +1,4 @@
-use Rattle.std.proofs.Common.{◌≡◌, suc, ◌+◌, ◌≤◌, ◌++◌, replicate}
+use Rattle.std.proofs.Common.{◌≡◌, suc, ◌≤◌, ◌++◌, replicate}
 use Rattle.tree.specs.Geometry.{start, levels}
 use Rattle.tree.specs.Layout.{zero_block, stacked}
 use Rattle.tree.proofs.layout.fill.Given as goal

@@ -1,6 +1,5 @@
-use Rattle.std.proofs.Common.{length, ap, arith}
+use Rattle.std.proofs.Common.{ap, arith}
 use Rattle.tree.proofs.Levels.{images_none, images_more, images_all}
-use Rattle.tree.proofs.layout.lay_level.Given as given
 use Rattle.tree.proofs.layout.lay_level.Goals as goal
 
 pub loop-i-init : goal.loop-i-init

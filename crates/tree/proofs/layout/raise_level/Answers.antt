@@ -1,4 +1,3 @@
-use Rattle.std.proofs.Common.{ap}
 use Rattle.tree.proofs.Levels.{raised_none, raised_more, raised_all}
 use Rattle.tree.proofs.layout.raise_level.Goals as goal
 

@@ -1,4 +1,4 @@
-use Rattle.std.proofs.Common.{◌+◌, ◌*◌, ◌<◌, ◌∙◌, arith}
+use Rattle.std.proofs.Common.{◌+◌, ◌*◌, ◌∙◌, arith}
 use Rattle.std.proofs.lemmas.Nat.{shr_le}
 use Rattle.tree.proofs.Numbers.{level_few, above_most, place_shifted}
 use Rattle.tree.proofs.geometry.Geometry.place_of.Goals as goal

@@ -1,4 +1,4 @@
-use Rattle.std.proofs.Common.{◌<◌, arith, Fits}
+use Rattle.std.proofs.Common.{◌<◌, arith}
 use Rattle.tree.proofs.Numbers.{levels_most, width_shifted}
 use Rattle.tree.proofs.geometry.Geometry.width_of.Goals as goal
 
