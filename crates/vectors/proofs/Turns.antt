@@ -1,5 +1,5 @@
 -- One line after another.
-use Rattle.std.proofs.Common.{◌≡◌, ℕ, ◌+◌, ◌<◌, Bool, true, false, cond, List, [], ◌∷◌, length, get_or, is_some, None, Decides, Option, sym, refl, ap, ◌∙◌, subst, arith, eq-eqb, ne_eqb}
+use Rattle.std.proofs.Common.{◌≡◌, ℕ, ◌+◌, ◌<◌, Bool, true, false, cond, List, [], ◌∷◌, length, get_or, is_some, None, Decides, Option, refl, arith, eq-eqb, ne_eqb}
 use Rattle.std.specs.Str.Lines.{IsFirstLine}
 use Rattle.vectors.specs.declared.tally.Problem.{Problem}
 use Rattle.vectors.specs.declared.tally.Tally.{Tally}
