@@ -1,5 +1,5 @@
 -- One SIM more in the volume of a tray. Assumes nothing.
-use Rattle.std.proofs.Common.{◌≡◌, ℕ, suc, ◌+◌, ◌-◌, ◌<◌, ◌≤◌, List, [], ◌∷◌, ◌++◌, map, length, get_or, take, set, replicate, Ok, Err, Result, sym, ap, ◌∙◌, append_assoc, append-nil, arith, length-append, MatchResult}
+use Rattle.std.proofs.Common.{◌≡◌, ℕ, suc, ◌+◌, ◌-◌, ◌<◌, ◌≤◌, List, [], ◌∷◌, ◌++◌, map, length, get_or, take, set, replicate, Ok, Err, Result, sym, ap, ◌∙◌, append_assoc, arith, length-append, MatchResult}
 use lib.ListN.{length-map, length-replicate}
 use Rattle.std.proofs.lemmas.List.{set_at, map_more, length-take-le, take_all}
 

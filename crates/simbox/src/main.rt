@@ -1,4 +1,6 @@
 // From a tray's sheet to the label of its box.
+#![tactic(auto)]
+
 mod label;
 mod lines;
 mod load;

@@ -1,4 +1,4 @@
-use Rattle.std.proofs.Common.{◌≡◌, ◌/◌, ◌%◌, ◌<◌, ◌++◌, get_or, string_bytes, ap, ◌∙◌, arith}
+use Rattle.std.proofs.Common.{◌/◌, ◌%◌, ◌<◌, ◌++◌, get_or, string_bytes, ap, ◌∙◌, arith}
 use Rattle.simbox.proofs.Hex.{hex_more, hex_all, hex_digit_ascii}
 use Rattle.simbox.proofs.lines.hex_text.Goals as goal
 
