@@ -1,3 +1,5 @@
+#![tactic(auto)]
+
 // Examples of what the libraries do. The expected values were worked out by hand or come from outside.
 #[cfg(test)]
 mod digests;

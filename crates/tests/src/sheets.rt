@@ -143,7 +143,7 @@ const REFUSALS: [(&str, &str); 36] = [
 fn refusals(rt: HostRuntime) -> Result<(), Fail> {
     for (text, told) in &REFUSALS {
         let Err(error) = read_sheet(rt.alloc(), text.as_bytes()) else {
-            return Err(Fail::new("a bad sheet is read")).note(*text);
+            panic!(rt; "a bad sheet is read: {}", *text);
         };
         assert_eq!(rt; error.to_string(rt.alloc())?.as_str(), *told, "{}", *text);
     }

@@ -19,10 +19,10 @@ fn block_and_back(rt: HostRuntime) -> Result<(), Fail> {
         sequence,
     };
     let block = encode(&sim);
-    assert_eq!(rt; &block[0..15], b"901700000000001");
+    assert_eq!(rt; &block[0..15], b"901700000000001".as_slice());
     assert_eq!(rt;
         &block[15..32],
-        &[0, 0, 0, 0, 0, 3, 1, 0, 0, 0x67, 0x12, 0, 0, 0, 0, 0, 0]
+        [0, 0, 0, 0, 0, 3, 1, 0, 0, 0x67, 0x12, 0, 0, 0, 0, 0, 0].as_slice()
     );
     assert_eq!(rt; decode(&block), Some(sim));
     // a byte that has to be zero, and one that has to be a digit
