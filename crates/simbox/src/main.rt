@@ -7,6 +7,7 @@ mod load;
 mod report;
 
 use std::io::Read;
+use std::process::ExitCode;
 use std::{env, io};
 use subscriber::cause::SheetError;
 
@@ -68,12 +69,12 @@ fn complain(rt: &HostRuntime, stop: Stop) -> io::Result<()> {
     }
 }
 
-fn main(rt: HostRuntime) -> io::Result<()> {
-    match run(&rt) {
-        Ok(()) => Ok(()),
-        Err(stop) => {
-            complain(&rt, stop)?;
-            Err(io::Error::from(io::ErrorKind::InvalidInput))
-        }
+fn main(rt: HostRuntime) -> ExitCode {
+    let Err(stop) = run(&rt) else {
+        return ExitCode::SUCCESS;
+    };
+    match complain(&rt, stop) {
+        // Where even the complaint cannot be written, the status still tells.
+        Ok(()) | Err(_) => ExitCode::FAILURE,
     }
 }
