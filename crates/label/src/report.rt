@@ -8,7 +8,6 @@ use crate::lines::{write_head, write_label, write_sims, write_tree};
 use crate::load::load;
 use digest::hash::Hash;
 use std::alloc::{AllocError, Global};
-use std::fmt;
 use subscriber::sheet::Sheet;
 use tree::contents::Contents;
 use tree::geometry::Geometry;
@@ -21,7 +20,7 @@ fn write_report(
     contents: &Contents,
     kind: u8,
     root: &[u8; 32],
-) -> fmt::Result
+) -> Result<(), AllocError>
     requires { contents.now.blocks.items ≡ volume_of sheet.now.sims.items sheet.now.blocks.value }
     ensures { OnOk result (string_bytes text.new ≡ string_bytes text.old ++ report_with sheet.now.tray.value sheet.now.blocks.value sheet.now.sims.items kind root.now) }
 {
@@ -46,8 +45,6 @@ pub(crate) fn report<H: Hash>(heap: Global, sheet: &Sheet, hash: &H) -> Result<S
     let contents = load(heap, geometry, sheet.sims.as_slice())?;
     let tree = Tree::over(heap, hash, &contents)?;
     let mut text = String::new(heap);
-    match write_report(&mut text, sheet, &contents, H::kind_number(), &tree.root) {
-        Ok(()) => Ok(text),
-        Err(_) => Err(AllocError),
-    }
+    write_report(&mut text, sheet, &contents, H::kind_number(), &tree.root)?;
+    Ok(text)
 }

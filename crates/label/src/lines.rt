@@ -3,16 +3,21 @@ ghost use Rattle.std.specs.Prelude.{◌≡◌, ◌<◌, List, ◌++◌, map, str
 ghost use Rattle.label.specs.Report.{head_line, sim_line, sim_lines, tree_line, label_line, hex, hex_digit};
 ghost use Rattle.sim.specs.Block.{sim_block};
 
-use std::fmt;
+use std::alloc::AllocError;
 use subscriber::{Sim, decode};
 
-pub(crate) fn write_head(text: &mut String, tray: u32, sims: usize, blocks: u16) -> fmt::Result
+pub(crate) fn write_head(
+    text: &mut String,
+    tray: u32,
+    sims: usize,
+    blocks: u16,
+) -> Result<(), AllocError>
     ensures { OnOk result (string_bytes text.new ≡ string_bytes text.old ++ head_line tray sims blocks) }
 {
     writeln!(text, "tray {tray}: SIMs {sims}, blocks {blocks}")
 }
 
-fn write_sim(text: &mut String, block: usize, sim: &Sim) -> fmt::Result
+fn write_sim(text: &mut String, block: usize, sim: &Sim) -> Result<(), AllocError>
     ensures { OnOk result (string_bytes text.new ≡ string_bytes text.old ++ sim_line block sim.now) }
 {
     let identity = sim.identity;
@@ -25,7 +30,7 @@ fn write_sim(text: &mut String, block: usize, sim: &Sim) -> fmt::Result
 }
 
 // A line for each block that holds a SIM, read from the block itself.
-pub(crate) fn write_sims(text: &mut String, blocks: &[[u8; 512]]) -> fmt::Result
+pub(crate) fn write_sims(text: &mut String, blocks: &[[u8; 512]]) -> Result<(), AllocError>
     ensures { OnOk result ((sims : List Sim) → map sim_block sims ≡ blocks.now → string_bytes text.new ≡ string_bytes text.old ++ sim_lines 0 sims) }
 {
     for (k, block) in blocks.iter().enumerate() {
@@ -36,7 +41,7 @@ pub(crate) fn write_sims(text: &mut String, blocks: &[[u8; 512]]) -> fmt::Result
     Ok(())
 }
 
-pub(crate) fn write_tree(text: &mut String, levels: usize, blocks: usize) -> fmt::Result
+pub(crate) fn write_tree(text: &mut String, levels: usize, blocks: usize) -> Result<(), AllocError>
     ensures { OnOk result (string_bytes text.new ≡ string_bytes text.old ++ tree_line levels blocks) }
 {
     writeln!(text, "tree: levels {levels}, blocks {blocks}")
@@ -54,7 +59,7 @@ fn hex_digit(n: u8) -> char
 }
 
 // Two digits to a byte.
-fn write_hex(text: &mut String, bytes: &[u8]) -> fmt::Result
+fn write_hex(text: &mut String, bytes: &[u8]) -> Result<(), AllocError>
     ensures { OnOk result (string_bytes text.new ≡ string_bytes text.old ++ hex bytes.now) }
 {
     for byte in bytes {
@@ -65,7 +70,7 @@ fn write_hex(text: &mut String, bytes: &[u8]) -> fmt::Result
     Ok(())
 }
 
-pub(crate) fn write_label(text: &mut String, kind: u8, root: &[u8]) -> fmt::Result
+pub(crate) fn write_label(text: &mut String, kind: u8, root: &[u8]) -> Result<(), AllocError>
     ensures { OnOk result (string_bytes text.new ≡ string_bytes text.old ++ label_line kind root.now) }
 {
     write!(text, "label: kind {kind}, root ")?;

@@ -1,4 +1,6 @@
 // The numbers of the tree over N data blocks: how many levels, how wide, where each starts, and where a block's image stands.
+#![tactic(auto)]
+
 ghost use Rattle.std.specs.Prelude.{◌≡◌, ◌<◌, ◌≤◌, MatchOption};
 ghost use Rattle.geometry.specs.Geometry.{width, levels, above, start, total, place};
 

@@ -1,5 +1,5 @@
 -- The line of one SIM more. Assumes nothing.
-use Rattle.std.proofs.Common.{◌≡◌, ℕ, zero, suc, ◌+◌, ◌<◌, ◌≤◌, List, [], ◌∷◌, ◌++◌, map, length, get_or, take, Some, Option, sym, refl, ap, ◌∙◌, append_assoc, append-nil, le_of_suc-le-suc, arith}
+use Rattle.std.proofs.Common.{◌≡◌, ℕ, zero, suc, ◌+◌, ◌<◌, ◌≤◌, List, [], ◌∷◌, ◌++◌, map, length, get_or, take, Some, sym, ap, ◌∙◌, append_assoc, append-nil, le_of_suc-le-suc, arith}
 use lib.ListN.{length-map}
 use Rattle.std.proofs.lemmas.List.{take_more, take_all, length-take-le, get_or-map}
 use Rattle.sim.specs.Block.{sim_block}

@@ -1,10 +1,12 @@
 // From the text of a tray's sheet to the report with its label.
+#![tactic(auto)]
+
 ghost use Rattle.label.specs.Label.{Labelled};
 
 use crate::report::report;
 use digest::siphash::SipHash;
-use sheet_error::cause::SheetError;
 use std::alloc::Global;
+use subscriber::cause::SheetError;
 use subscriber::read::read_sheet;
 use subscriber::tray::HashChoice;
 

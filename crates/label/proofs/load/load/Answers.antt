@@ -20,8 +20,8 @@ loop-k-preserved c =
     let more : take k (volume_of sims n) ++ c.match-get.block ∷ [] ≡ take (k + 1) (volume_of sims n) =
     elim c.match-get.branch [
       | in-Some w ↦ let finds = w.in-Some.ensures.lookup in
-          ap (λ b. take k (volume_of sims n) ++ b ∷ []) (w.block_is ∙ w.encode-block.ensures ∙ ap sim_block finds.1) ∙ sym (volume_sim sims n c.requires k w.in-Some.sim.now (true-ltb k (length sims) finds.0))
-      | in-None w ↦ ap (λ b. take k (volume_of sims n) ++ b ∷ []) w.block_is ∙ sym (volume_zero sims n c.requires k (false-ltb k (length sims) w.in-None.ensures.lookup.0) c.loop-k-test.true)
+          ap (λ b. take k (volume_of sims n) ++ b ∷ []) (w.block-is ∙ w.encode-block.ensures ∙ ap sim_block finds.1) ∙ sym (volume_sim sims n c.requires k w.in-Some.sim.now (true-ltb k (length sims) finds.0))
+      | in-None w ↦ ap (λ b. take k (volume_of sims n) ++ b ∷ []) w.block-is ∙ sym (volume_zero sims n c.requires k (false-ltb k (length sims) w.in-None.ensures.lookup.0) c.loop-k-test.true)
     ] in
     c.in_ok-push.ensures.items ∙ ap (λ l. l ++ c.match-get.block ∷ []) c.loop-k.invariant ∙ more
 
@@ -39,4 +39,4 @@ pub invariant_of-result : goal.invariant_of-result
 invariant_of-result c =
     let n = c.args.geometry.blocks in
     let size : vec_len c.loop-k.blocks ≡ n = c.loop-k.blocks.ok.0 ∙ ap length (whole c) ∙ volume_length c.args.sims.now n c.requires in
-    (omega (arith, size, c.args.geometry.least), omega (arith, size, c.args.geometry.most))
+    record { least = omega (arith, size, c.args.geometry.least); most = omega (arith, size, c.args.geometry.most) }
