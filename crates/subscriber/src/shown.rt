@@ -103,5 +103,5 @@ impl fmt::Display for SheetError {
     }
 }
 
-// So that `?` turns it into an `AnyError`.
+// So that `?` turns it into an `anyhow::Error`.
 impl Error for SheetError {}
