@@ -5,8 +5,8 @@ use Rattle.digest.specs.SipHash.{sip_cell}
 use Rattle.subscriber.specs.Answer.{plain_sheet}
 use Rattle.sim.specs.Block.{sim_block}
 use Rattle.subscriber.specs.Sheet.{sheet_of}
-use Rattle.subscriber.specs.declared.cause.SheetError.{SheetError}
-use Rattle.subscriber.specs.declared.cause.SheetError.TheVariants as error
+use Rattle.sheet_error.specs.declared.cause.SheetError.{SheetError}
+use Rattle.sheet_error.specs.declared.cause.SheetError.TheVariants as error
 use Rattle.subscriber.specs.declared.sheet.Sheet.{Sheet}
 use Rattle.sim.specs.declared.Sim.{Sim}
 use Rattle.subscriber.specs.declared.tray.HashChoice.{HashChoice}

@@ -1,11 +1,12 @@
 // Why a sheet is refused.
-ghost use Rattle.std.specs.Prelude.{◌≡◌};
+ghost use Rattle.std.specs.Prelude.{◌≡◌, ◌^◌, ◌<◌};
+ghost use Rattle.sheet_error.specs.Range.{least, most};
 ghost use Rattle.sheet_error.specs.declared.cause.SheetError.TheVariants as error;
 
 use std::alloc::AllocError;
 
 // A line that stands once, before the first SIM.
-#[derive(Clone, Copy)]
+#[derive(Clone, Copy, PartialEq, Eq, Debug)]
 pub enum Header {
     Tray,
     Hash,
@@ -13,7 +14,7 @@ pub enum Header {
 }
 
 // The word that a line begins with.
-#[derive(Clone, Copy)]
+#[derive(Clone, Copy, PartialEq, Eq, Debug)]
 pub enum Keyword {
     Tray,
     Hash,
@@ -22,7 +23,7 @@ pub enum Keyword {
 }
 
 // What a number of a sheet stands for.
-#[derive(Clone, Copy)]
+#[derive(Clone, Copy, PartialEq, Eq, Debug)]
 pub enum Number {
     Tray,
     Blocks,
@@ -30,8 +31,33 @@ pub enum Number {
     Sequence,
 }
 
+impl Number {
+    // The least number of its kind.
+    pub fn least(self) -> u64
+        ensures { result ≡ least self }
+    {
+        match self {
+            Number::Tray | Number::Blocks => 1,
+            Number::KeyIndex | Number::Sequence => 0,
+        }
+    }
+
+    // The largest number of its kind.
+    pub fn most(self) -> u64
+        ensures value { result ≡ most self }
+        ensures small { result < 2 ^ 48 }
+    {
+        match self {
+            Number::Tray => 4294967295,
+            Number::Blocks => 4096,
+            Number::KeyIndex => 65535,
+            Number::Sequence => 281474976710655,
+        }
+    }
+}
+
 // What is wrong with a line.
-#[derive(Clone, Copy)]
+#[derive(Clone, Copy, PartialEq, Eq, Debug)]
 pub enum Cause {
     // The first word is none of `tray`, `hash`, `blocks` and `sim`.
     UnknownWord,
@@ -56,7 +82,7 @@ pub enum Cause {
 }
 
 // Why no sheet was read.
-#[derive(Clone, Copy)]
+#[derive(Clone, Copy, PartialEq, Eq, Debug)]
 pub enum SheetError {
     // The line, counted from 1, and what is wrong there.
     Bad { line: usize, cause: Cause },

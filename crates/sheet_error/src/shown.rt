@@ -3,6 +3,7 @@ ghost use Rattle.std.specs.Prelude.{◌≡◌, Some};
 ghost use Rattle.sheet_error.specs.Wording.{wrong_words_text, not_decimal_text, out_of_range_text, missing_text, repeated_text, late_text, cause_text, error_text};
 
 use crate::cause::{Cause, Header, Keyword, Number, SheetError};
+use std::error::Error;
 use std::fmt;
 
 // The causes that name a line, a number or a header have one text for each.
@@ -101,3 +102,6 @@ impl fmt::Display for SheetError {
         }
     }
 }
+
+// So that `?` turns it into an `anyhow::Error`.
+impl Error for SheetError {}

@@ -1,11 +1,7 @@
 // From a tray's sheet to the label of its box.
 #![tactic(auto)]
 
-mod label;
-mod lines;
-mod load;
-mod report;
-
+use label::label;
 use std::io::Read;
 use std::process::ExitCode;
 use std::{env, io};
@@ -38,7 +34,7 @@ impl From<io::Error> for Stop {
 fn print_label(rt: &HostRuntime) -> Result<(), Stop> {
     let mut text = Vec::new(rt.alloc());
     rt.stdin().read_to_end(&mut text)?;
-    let report = label::label(rt.alloc(), text.as_slice())?;
+    let report = label(rt.alloc(), text.as_slice())?;
     rt.print(report)?;
     Ok(())
 }

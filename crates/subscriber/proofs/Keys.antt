@@ -4,7 +4,7 @@ use Rattle.std.proofs.lemmas.List.{drop_more, drop_all, take_all, take_more_set,
 use Rattle.std.proofs.lemmas.Bool.{and_left, and_right, lt-ltb, le-ltb, eq-eqb, ne_eqb, cond-true, cond-false}
 use Rattle.std.specs.Char.{digit_value}
 use Rattle.subscriber.specs.Items.{all_hex, hex_bytes, key_in}
-use Rattle.subscriber.specs.declared.cause.Cause.TheVariants.{KeyLength, KeyDigit}
+use Rattle.sheet_error.specs.declared.cause.Cause.TheVariants.{KeyLength, KeyDigit}
 
 module _ (w : List ℕ) (i : ℕ) (long : 2 * i + 1 < length w) where
   abbrev high : ℕ

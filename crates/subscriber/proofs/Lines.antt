@@ -4,7 +4,7 @@ use Rattle.std.proofs.lemmas.Bool.{and_left, and_right, and_from, and_parts, lt-
 use Rattle.sim.specs.Identity.{digit_run, is_identity, padded}
 use Rattle.subscriber.specs.Items.{identity_in, said, after, keyword_of, nothing, line_says}
 use Rattle.subscriber.specs.Text.{words}
-use Rattle.subscriber.specs.declared.cause.Cause.TheVariants.{IdentityLength, IdentityDigit}
+use Rattle.sheet_error.specs.declared.cause.Cause.TheVariants.{IdentityLength, IdentityDigit}
 
 module _ (w : List ℕ) where
   pub identity_short : length w < 6 → identity_in w ≡ Err IdentityLength

@@ -2,12 +2,12 @@
 use Rattle.std.proofs.Common.{◌≡◌, ℕ, ◌+◌, ◌≤◌, Bool, true, false, cond, eqb, ltb, List, [], ◌∷◌, ◌++◌, length, is_some, IfOk, Some, None, Ok, Err, vec_items, Option, Result, sym, refl, ap, ◌∙◌, arith}
 use Rattle.std.proofs.lemmas.List.{append_assoc, append-nil, length-map}
 use Rattle.std.specs.Option.{option_to_list}
-use Rattle.subscriber.specs.declared.cause.Cause.{Cause}
-use Rattle.subscriber.specs.declared.cause.Cause.TheVariants.{Repeated, Late, TooManySims}
-use Rattle.subscriber.specs.declared.cause.Header.{Header}
-use Rattle.subscriber.specs.declared.cause.Header.TheVariants.{Tray, Hash, Blocks}
+use Rattle.sheet_error.specs.declared.cause.Cause.{Cause}
+use Rattle.sheet_error.specs.declared.cause.Cause.TheVariants.{Repeated, Late, TooManySims}
+use Rattle.sheet_error.specs.declared.cause.Header.{Header}
+use Rattle.sheet_error.specs.declared.cause.Header.TheVariants.{Tray, Hash, Blocks}
 use Rattle.subscriber.specs.declared.tray.HashChoice.{HashChoice}
-use Rattle.subscriber.specs.declared.cause.SheetError.{SheetError}
+use Rattle.sheet_error.specs.declared.cause.SheetError.{SheetError}
 use Rattle.subscriber.specs.declared.sheet.Sheet.{Sheet}
 use Rattle.subscriber.specs.Answer.{Answers, plain_sheet}
 use Rattle.subscriber.specs.Plain.{entry_of}

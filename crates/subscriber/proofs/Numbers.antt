@@ -4,9 +4,10 @@ use Rattle.std.proofs.lemmas.List.{at_drop_more}
 use Rattle.std.proofs.lemmas.Bool.{and_left, and_right, and_from, lt-leb, le-leb, lt-ltb, le-ltb, cond-true, cond-false}
 use Rattle.std.specs.Char.{is_ascii_digit}
 use Rattle.std.specs.List.{prefix_len}
-use Rattle.subscriber.specs.Number.{least, most, digits_after, is_decimal, number_in}
-use Rattle.subscriber.specs.declared.cause.Cause.TheVariants.{NotANumber, OutOfRange}
-use Rattle.subscriber.specs.declared.cause.Number.{Number}
+use Rattle.subscriber.specs.Number.{digits_after, is_decimal, number_in}
+use Rattle.sheet_error.specs.Range.{least, most}
+use Rattle.sheet_error.specs.declared.cause.Cause.TheVariants.{NotANumber, OutOfRange}
+use Rattle.sheet_error.specs.declared.cause.Number.{Number}
 
 -- a number only grows with its digits
 pub digits_grow : (n : ℕ) (ds : List ℕ) → n ≤ digits_after n ds

@@ -2,10 +2,10 @@
 use Rattle.std.proofs.Common.{◌≡◌, ℕ, ◌+◌, ◌≤◌, Bool, true, false, cond, eqb, ltb, List, [], ◌∷◌, ◌++◌, length, is_some, Some, None, Ok, Err, Option, Result, sym, refl, ap, ◌∙◌, subst, arith}
 use Rattle.std.proofs.lemmas.List.{length-map, length_push, nil_from_length}
 use Rattle.std.proofs.lemmas.Bool.{eqb-true, ltb-true}
-use Rattle.subscriber.specs.declared.cause.Cause.{Cause}
-use Rattle.subscriber.specs.declared.cause.Cause.TheVariants.{Repeated, Late, TooManySims}
-use Rattle.subscriber.specs.declared.cause.Header.{Header}
-use Rattle.subscriber.specs.declared.cause.Header.TheVariants.{Blocks}
+use Rattle.sheet_error.specs.declared.cause.Cause.{Cause}
+use Rattle.sheet_error.specs.declared.cause.Cause.TheVariants.{Repeated, Late, TooManySims}
+use Rattle.sheet_error.specs.declared.cause.Header.{Header}
+use Rattle.sheet_error.specs.declared.cause.Header.TheVariants.{Blocks}
 use Rattle.subscriber.specs.declared.headers.Heading.{Heading}
 use Rattle.subscriber.specs.declared.headers.Headers.{Headers}
 use Rattle.sim.specs.declared.Sim.{Sim}

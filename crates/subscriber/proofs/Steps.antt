@@ -3,9 +3,9 @@ use Rattle.std.proofs.Common.{◌≡◌, ℕ, ◌<◌, ◌≤◌, Bool, List, []
 use Rattle.std.proofs.lemmas.List.{length-map, map_push}
 use Rattle.std.proofs.lemmas.Bool.{cond-true, cond-false, lt-ltb, le-ltb}
 use Rattle.std.specs.Option.{option_map}
-use Rattle.subscriber.specs.declared.cause.Cause.{Cause}
-use Rattle.subscriber.specs.declared.cause.Cause.TheVariants.{TooManySims}
-use Rattle.subscriber.specs.declared.cause.Header.{Header}
+use Rattle.sheet_error.specs.declared.cause.Cause.{Cause}
+use Rattle.sheet_error.specs.declared.cause.Cause.TheVariants.{TooManySims}
+use Rattle.sheet_error.specs.declared.cause.Header.{Header}
 use Rattle.sim.specs.declared.Sim.{Sim}
 use Rattle.subscriber.specs.declared.headers.Heading.{Heading}
 use Rattle.subscriber.specs.declared.headers.Headers.{Headers}

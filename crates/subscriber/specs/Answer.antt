@@ -1,9 +1,9 @@
 -- What the reader has read and answers, in plain numbers.
 use Rattle.std.specs.Prelude.{◌≡◌, ℕ, ◌≤◌, List, map, length, Some, Ok, Err, vec_items, Result}
 use Rattle.std.specs.Option.{option_map}
-use Rattle.subscriber.specs.declared.cause.Cause.{Cause}
-use Rattle.subscriber.specs.declared.cause.SheetError.{SheetError}
-use Rattle.subscriber.specs.declared.cause.SheetError.TheVariants as error
+use Rattle.sheet_error.specs.declared.cause.Cause.{Cause}
+use Rattle.sheet_error.specs.declared.cause.SheetError.{SheetError}
+use Rattle.sheet_error.specs.declared.cause.SheetError.TheVariants as error
 use Rattle.subscriber.specs.declared.headers.Heading.{Heading}
 use Rattle.subscriber.specs.declared.headers.Headers.{Headers}
 use Rattle.subscriber.specs.declared.headers.Fault.{Fault}

@@ -2,11 +2,11 @@
 use Rattle.std.specs.Prelude.{ℕ, ◌+◌, ◌*◌, Bool, true, cond, ◌&&◌, List, [], ◌∷◌, length, Some, None, Ok, Err, codes, Option, Result, ◌==◌, nat_le, nat_lt, slice_index, slice_index_or}
 use Rattle.std.specs.Char.{digit_value}
 use Rattle.std.specs.Str.{bytes_eq}
-use Rattle.subscriber.specs.declared.cause.Cause.{Cause}
-use Rattle.subscriber.specs.declared.cause.Cause.TheVariants as cause
-use Rattle.subscriber.specs.declared.cause.Keyword.{Keyword}
-use Rattle.subscriber.specs.declared.cause.Keyword.TheVariants as keyword
-use Rattle.subscriber.specs.declared.cause.Number.TheVariants as number
+use Rattle.sheet_error.specs.declared.cause.Cause.{Cause}
+use Rattle.sheet_error.specs.declared.cause.Cause.TheVariants as cause
+use Rattle.sheet_error.specs.declared.cause.Keyword.{Keyword}
+use Rattle.sheet_error.specs.declared.cause.Keyword.TheVariants as keyword
+use Rattle.sheet_error.specs.declared.cause.Number.TheVariants as number
 use Rattle.subscriber.specs.declared.tray.HashChoice.{HashChoice}
 use Rattle.subscriber.specs.declared.tray.HashChoice.TheVariants.{SipHash}
 use Rattle.sim.specs.Identity.{digit_run, padded}

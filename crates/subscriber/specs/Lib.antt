@@ -5,4 +5,3 @@ pub mod Items
 pub mod Plain
 pub mod Sheet
 pub mod Answer
-pub mod Wording

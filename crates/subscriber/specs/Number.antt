@@ -2,24 +2,10 @@
 use Rattle.std.specs.Prelude.{ℕ, ◌+◌, ◌-◌, ◌*◌, Bool, cond, ◌&&◌, List, [], ◌∷◌, length, Ok, Err, Result, ◌==◌, nat_le, nat_lt}
 use Rattle.std.specs.Char.{is_ascii_digit}
 use Rattle.std.specs.List.{prefix_len}
-use Rattle.subscriber.specs.declared.cause.Cause.{Cause}
-use Rattle.subscriber.specs.declared.cause.Cause.TheVariants.{NotANumber, OutOfRange}
-use Rattle.subscriber.specs.declared.cause.Number.{Number}
-use Rattle.subscriber.specs.declared.cause.Number.TheVariants.{Tray, Blocks, KeyIndex, Sequence}
-
--- the least number of each kind
-abbrev pub least : Number → ℕ
-least Tray = 1
-least Blocks = 1
-least KeyIndex = 0
-least Sequence = 0
-
--- the largest
-abbrev pub most : Number → ℕ
-most Tray = 4294967295
-most Blocks = 4096
-most KeyIndex = 65535
-most Sequence = 281474976710655
+use Rattle.sheet_error.specs.declared.cause.Cause.{Cause}
+use Rattle.sheet_error.specs.declared.cause.Cause.TheVariants.{NotANumber, OutOfRange}
+use Rattle.sheet_error.specs.declared.cause.Number.{Number}
+use Rattle.sheet_error.specs.Range.{least, most}
 
 -- the number that n and then these digits write
 abbrev pub digits_after : ℕ → List ℕ → ℕ

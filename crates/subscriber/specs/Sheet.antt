@@ -1,9 +1,9 @@
 -- What a sheet says: its lines are taken one after the other.
 use Rattle.std.specs.Prelude.{◌≡◌, ℕ, ◌+◌, ◌≤◌, Bool, cond, List, [], ◌∷◌, ◌++◌, length, is_some, Some, None, Ok, Err, Option, Result, ◌==◌, nat_lt}
-use Rattle.subscriber.specs.declared.cause.Cause.{Cause}
-use Rattle.subscriber.specs.declared.cause.Cause.TheVariants.{Missing, Repeated, Late, TooManySims}
-use Rattle.subscriber.specs.declared.cause.Header.{Header}
-use Rattle.subscriber.specs.declared.cause.Header.TheVariants.{Tray, Hash, Blocks}
+use Rattle.sheet_error.specs.declared.cause.Cause.{Cause}
+use Rattle.sheet_error.specs.declared.cause.Cause.TheVariants.{Missing, Repeated, Late, TooManySims}
+use Rattle.sheet_error.specs.declared.cause.Header.{Header}
+use Rattle.sheet_error.specs.declared.cause.Header.TheVariants.{Tray, Hash, Blocks}
 use Rattle.subscriber.specs.declared.tray.HashChoice.{HashChoice}
 use Rattle.subscriber.specs.Items.{Entry, Said, nothing, tray_is, hash_is, blocks_are, sim_is, with_ok, then_ok, line_says}
 use Rattle.subscriber.specs.Text.{lines}

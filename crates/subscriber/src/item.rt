@@ -4,7 +4,7 @@ ghost use Rattle.std.specs.Str.{bytes_eq};
 ghost use Rattle.subscriber.specs.Items.{keyword_of, with_ok, identity_in, hash_in, after, said, line_says};
 ghost use Rattle.subscriber.specs.Plain.{plain};
 ghost use Rattle.subscriber.specs.Text.{words};
-ghost use Rattle.subscriber.specs.declared.cause.Keyword.TheVariants as keyword;
+ghost use Rattle.sheet_error.specs.declared.cause.Keyword.TheVariants as keyword;
 
 use crate::block_count::BlockCount;
 use crate::cause::{Cause, Keyword, Number};

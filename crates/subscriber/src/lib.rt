@@ -3,7 +3,7 @@
 #![tactic(auto)]
 
 pub mod block_count;
-pub mod cause;
+pub use sheet_error::cause;
 mod headers;
 mod hex;
 mod item;
@@ -11,7 +11,6 @@ mod number;
 pub mod read;
 mod scan;
 pub mod sheet;
-pub mod shown;
 mod step;
 mod text;
 pub mod tray;

@@ -1,34 +1,10 @@
 // Decimal numbers of a sheet.
 ghost use Rattle.std.specs.Prelude.{◌≡◌, ◌^◌, ◌<◌, ◌≤◌, IfOk, MatchOption};
-ghost use Rattle.subscriber.specs.Number.{least, most, digits_after, is_decimal, number_in};
+ghost use Rattle.subscriber.specs.Number.{digits_after, is_decimal, number_in};
+ghost use Rattle.sheet_error.specs.Range.{least, most};
 
 use crate::cause::{Cause, Number};
 use crate::scan::{Class, run};
-
-impl Number {
-    // The least number of its kind.
-    pub(crate) fn least(self) -> u64
-        ensures { result ≡ least self }
-    {
-        match self {
-            Number::Tray | Number::Blocks => 1,
-            Number::KeyIndex | Number::Sequence => 0,
-        }
-    }
-
-    // The largest number of its kind.
-    pub(crate) fn most(self) -> u64
-        ensures value { result ≡ most self }
-        ensures small { result < 2 ^ 48 }
-    {
-        match self {
-            Number::Tray => 4294967295,
-            Number::Blocks => 4096,
-            Number::KeyIndex => 65535,
-            Number::Sequence => 281474976710655,
-        }
-    }
-}
 
 // The number that the digits write, or `None` past `most`.
 fn decimal(digits: &[u8], most: u64) -> Option<u64>

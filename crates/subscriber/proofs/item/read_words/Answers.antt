@@ -2,7 +2,7 @@ use Rattle.std.proofs.Common.{◌≡◌, length, Some, sym, ap, ◌∙◌, arith
 use Rattle.std.proofs.lemmas.Bool.{eqb-true, eqb-false}
 use Rattle.subscriber.specs.Items.{after, keyword_of}
 use Rattle.subscriber.specs.Text.{words}
-use Rattle.subscriber.specs.declared.cause.Keyword.TheVariants as keyword
+use Rattle.sheet_error.specs.declared.cause.Keyword.TheVariants as keyword
 use Rattle.subscriber.proofs.Cuts.{words_none}
 use Rattle.subscriber.proofs.Lines.{said_first, said_none}
 use Rattle.subscriber.proofs.item.read_words.Goals as goal

@@ -1,6 +1,6 @@
 use Rattle.std.proofs.Common.{Err, sym, ap, ◌∙◌}
 use Rattle.std.proofs.lemmas.Result.{err_from_is_err_and}
-use Rattle.subscriber.specs.declared.cause.Header.TheVariants.{Tray}
+use Rattle.sheet_error.specs.declared.cause.Header.TheVariants.{Tray}
 use Rattle.subscriber.proofs.Steps.{is_mapped, allowed_same, set_err, set_ok}
 use Rattle.subscriber.proofs.step.set_tray.Goals as goal
 

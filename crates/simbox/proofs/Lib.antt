@@ -1,4 +1,0 @@
-pub mod Hex
-pub mod Loaded
-pub mod Reported
-pub mod SimLines

@@ -1,2 +1,0 @@
-pub mod Label
-pub mod Report
