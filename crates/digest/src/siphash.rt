@@ -120,27 +120,19 @@ impl SipHash {
 impl Hash for SipHash {
     const KIND: u8 = 2;
 
+    ghost KIND = { 2 };
+
     const LENGTH: usize = 8;
 
+    ghost LENGTH = { 8 };
+
     ghost image = { λ h block. sip_cell h.key block };
-
-    ghost number = { 2 };
-
-    ghost size = { 8 };
 
     ghost numbered = { Prim.search rules };
 
     ghost sized = { Prim.search rules };
 
     ghost cell = { unfold sip_cell in λ h block. bytes_cell 8 24 (siphash_2_4 h.key block) refl };
-
-    fn kind_number() -> u8 {
-        Self::KIND
-    }
-
-    fn cell_length() -> usize {
-        Self::LENGTH
-    }
 
     fn image_of(&self, block: &[u8; 512]) -> [u8; 32] {
         let mut cell = [0u8; 32];

@@ -1,9 +1,9 @@
 -- A SIM is what its block says: the fields of a block, and SIMs with the same fields.
-use Rattle.std.proofs.Common.{◌≡◌, ℕ, ◌+◌, ◌*◌, ◌^◌, ◌<◌, true, List, ◌++◌, length, get_or, take, drop, replicate, sym, refl, ap, ◌∙◌, arith}
+use Rattle.std.proofs.Common.{◌≡◌, ℕ, ◌+◌, ◌*◌, ◌^◌, ◌<◌, true, List, ◌++◌, get_or, take, drop, replicate, sym, refl, ap, ◌∙◌, arith}
 use mathlib.Core.Bool.{Bool-set}
 use mathlib.Core.HLevel.{is_prop→PathP}
 use native.Mathlib.Bridge.{le_prop}
-use Rattle.std.proofs.lemmas.List.{take_at, drop_at, get_or-drop, append_assoc, length-append, length-replicate}
+use Rattle.std.proofs.lemmas.List.{take_at, drop_at, append_assoc}
 use Rattle.sim.specs.Identity.{is_padded}
 use Rattle.sim.specs.Block.{little_endian, sim_head, sim_block}
 use Rattle.sim.specs.declared.identity.Identity.{Identity}
@@ -37,21 +37,31 @@ module _ (s : Sim) (block : List ℕ) (e : sim_block s ≡ block) where
   block_tail =
       rw (← e, append_assoc s.identity.digits (little_endian 4 s.key ++ little_endian 8 s.sequence.value) (replicate 480 0)) (drop_at s.identity.digits _ 20 (padded_length _ s.identity.ok))
 
-  at : (i : ℕ) → get_or block (20 + i) 0 ≡ get_or ((little_endian 4 s.key ++ little_endian 8 s.sequence.value) ++ replicate 480 0) i 0
-  at i = sym (get_or-drop 20 block i 0) ∙ ap (λ xs. get_or xs i 0) block_tail
+  -- the next four bytes, read as a number, are the key index
+  pub block_key
+      : (rest bytes : List ℕ)
+      → rest ≡ drop 20 block
+      → bytes ≡ take 4 rest
+      → get_or bytes 0 0 + get_or bytes 1 0 * 256 + get_or bytes 2 0 * 65536 + get_or bytes 3 0 * 16777216 ≡ s.key
+  block_key rest bytes at cut =
+      let own : bytes ≡ little_endian 4 s.key = cut ∙ ap (take 4) (at ∙ block_tail) in
+      rw own (omega (arith, s.narrow))
 
-  pub block_key : get_or block 20 0 + get_or block 21 0 * 256 ≡ s.key
-  block_key = omega (arith, at 0, at 1, s.narrow)
-
-  pub block_sequence : get_or block 24 0 + get_or block 25 0 * 256 + get_or block 26 0 * 65536 + get_or block 27 0 * 16777216 + get_or block 28 0 * 4294967296 + get_or block 29 0 * 1099511627776 ≡ s.sequence.value
-  block_sequence = omega (arith, at 4, at 5, at 6, at 7, at 8, at 9, s.sequence.small)
+  -- and the eight after it the sequence number
+  pub block_sequence
+      : (rest more bytes : List ℕ)
+      → rest ≡ drop 20 block
+      → more ≡ drop 4 rest
+      → bytes ≡ take 8 more
+      → get_or bytes 0 0 + get_or bytes 1 0 * 256 + get_or bytes 2 0 * 65536 + get_or bytes 3 0 * 16777216 + get_or bytes 4 0 * 4294967296 + get_or bytes 5 0 * 1099511627776 + get_or bytes 6 0 * 281474976710656 + get_or bytes 7 0 * 72057594037927936
+      ≡ s.sequence.value
+  block_sequence rest more bytes at past cut =
+      let own : bytes ≡ little_endian 8 s.sequence.value = cut ∙ ap (take 8) (past ∙ ap (drop 4) (at ∙ block_tail)) in
+      rw own (omega (arith, s.sequence.small))
 
 -- no two SIMs have one block
 pub same_block : (s t : Sim) → sim_block s ≡ sim_block t → s ≡ t
 same_block s t e =
     let b = sim_block t in
-    same_sim s t (sym (block_digits s b e) ∙ block_digits t b refl) (sym (block_key s b e) ∙ block_key t b refl) (sym (block_sequence s b e) ∙ block_sequence t b refl)
-
-pub block_length : (s : Sim) → length (sim_block s) ≡ 512
-unfolding sim_block sim_head
-block_length s = simp length-append (omega (arith, padded_length s.identity.digits s.identity.ok, length-replicate {A = ℕ} 480 0))
+    same_sim s t (sym (block_digits s b e) ∙ block_digits t b refl) (sym (block_key s b e _ _ refl refl) ∙ block_key t b refl _ _ refl refl)
+    (sym (block_sequence s b e _ _ _ refl refl refl) ∙ block_sequence t b refl _ _ _ refl refl refl)

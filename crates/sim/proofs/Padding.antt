@@ -1,6 +1,6 @@
 -- Zeros, and the identity as text and as 20 bytes.
-use Rattle.std.proofs.Common.{◌≡◌, ℕ, zero, suc, ◌+◌, ◌-◌, ◌<◌, ◌≤◌, Bool, true, false, ◌&&◌, eqb, leb, List, [], ◌∷◌, ◌++◌, length, get_or, drop, replicate, sym, refl, ap, ◌∙◌, arith}
-use Rattle.std.proofs.lemmas.List.{at_drop_more, drop_at, length-append, length-replicate}
+use Rattle.std.proofs.Common.{◌≡◌, ℕ, zero, suc, ◌-◌, ◌<◌, ◌≤◌, Bool, true, false, ◌&&◌, eqb, leb, List, [], ◌∷◌, ◌++◌, length, drop, replicate, sym, refl, ap, ◌∙◌, arith}
+use Rattle.std.proofs.lemmas.List.{drop_at, length-append, length-replicate}
 use Rattle.std.proofs.lemmas.Bool.{eq-eqb, ne_eqb, le-leb, lt-leb, and_left, and_right, and_from, and_parts, eqb-true}
 use Rattle.std.specs.Char.{is_ascii_digit}
 use Rattle.sim.specs.Identity.{all_zero}
@@ -8,12 +8,6 @@ use Rattle.sim.specs.Identity.{digit_run, is_padded, is_identity, padded}
 
 and_on : (x y : Bool) → x ≡ true → (x && y) ≡ y
 and_on x y e = rw e
-
-pub zero_step : (xs : List ℕ) (i : ℕ) → i < length xs → get_or xs i 0 ≡ 0 → all_zero (drop i xs) ≡ all_zero (drop (i + 1) xs)
-zero_step xs i h e = at_drop_more all_zero xs i 0 h ∙ and_on _ _ (eq-eqb _ 0 e)
-
-pub zero_stop : (xs : List ℕ) (i : ℕ) → i < length xs → (get_or xs i 0 ≡ 0 → ⊥) → all_zero (drop i xs) ≡ false
-zero_stop xs i h e = at_drop_more all_zero xs i 0 h ∙ and_left _ _ (ne_eqb _ 0 e)
 
 pub all_zero_replicate : (n : ℕ) → all_zero (replicate n 0) ≡ true
 all_zero_replicate zero = refl
@@ -71,10 +65,6 @@ padded_is text high all =
     let tail : all_zero (drop (length text) (text ++ zeros)) ≡ true = ap all_zero (drop_at text zeros (length text) refl) ∙ all_zero_replicate (20 - length text) in
     let wide : length (text ++ zeros) ≡ 20 = simp (length-append, length-replicate) (omega arith) in
     rw long (and_on _ _ (eq-eqb _ 20 wide) ∙ and_true _ _ tail ∙ sym (and_true _ _ (le-leb _ 20 high)) ∙ sym (and_true _ _ (eq-eqb _ _ all)))
-
-pub identity_yes : (text : List ℕ) → 6 ≤ length text → length text ≤ 20 → digit_run text ≡ length text → is_identity text ≡ true
-unfolding is_identity
-identity_yes text low high all = and_from _ _ (and_from _ _ (le-leb 6 _ low) (le-leb _ 20 high)) (eq-eqb _ _ all)
 
 pub identity_short : (text : List ℕ) → length text < 6 → is_identity text ≡ false
 unfolding is_identity

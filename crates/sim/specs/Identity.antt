@@ -1,7 +1,7 @@
 -- The identity of a SIM, as text and as the 20 bytes that it has in a block.
-use Rattle.std.specs.Prelude.{ℕ, ◌-◌, Bool, true, ◌&&◌, List, [], ◌∷◌, ◌++◌, length, take, drop, replicate, ◌==◌, nat_le}
+use Rattle.std.specs.Prelude.{ℕ, ◌-◌, Bool, ◌&&◌, List, ◌++◌, length, take, drop, replicate, ◌==◌, nat_le}
 use Rattle.std.specs.Char.{is_ascii_digit}
-use Rattle.std.specs.List.{prefix_len}
+use Rattle.std.specs.List.{prefix_len, list_all}
 
 -- how many ASCII digits stand at the front
 abbrev pub digit_run : List ℕ → ℕ
@@ -9,8 +9,7 @@ digit_run bs = prefix_len is_ascii_digit bs
 
 -- nothing but zero bytes
 abbrev pub all_zero : List ℕ → Bool
-all_zero [] = true
-all_zero (c ∷ cs) = c == 0 && all_zero cs
+all_zero bs = list_all (λ c. c == 0) bs
 
 -- 20 bytes: at least six ASCII digits, and zeros after the last
 unfoldable pub is_padded : List ℕ → Bool

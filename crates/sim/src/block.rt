@@ -30,18 +30,13 @@ pub fn encode(sim: &Sim) -> [u8; 512]
 fn fields(block: &[u8; 512]) -> Option<Sim>
     ensures { (s : Sim) → sim_block s ≡ block.now → result ≡ Some s }
 {
-    let mut digits = [0u8; 20];
-    digits.copy_from_slice(&block[0..20]);
-    let identity = Identity::from_padded(digits)?;
-    let key = u16::from_le_bytes([block[20], block[21]]);
-    let number = u64::from_le_bytes([
-        block[24], block[25], block[26], block[27], block[28], block[29], 0, 0,
-    ]);
-    let sequence = Sequence::new(number)?;
+    let (digits, rest) = block.split_first_chunk::<20>()?;
+    let (key, rest) = rest.split_first_chunk::<4>()?;
+    let (sequence, _) = rest.split_first_chunk::<8>()?;
     Some(Sim {
-        identity,
-        key,
-        sequence,
+        identity: Identity::from_padded(*digits)?,
+        key: u16::try_from(u32::from_le_bytes(*key)).ok()?,
+        sequence: Sequence::new(u64::from_le_bytes(*sequence))?,
     })
 }
 

@@ -1,10 +1,6 @@
 // The identity of a SIM: an IMSI or an ICCID.
-ghost use Rattle.std.specs.Prelude.{◌≡◌, ◌≤◌, true, false, length, Some, Decides, MatchOption, ◌==◌};
+ghost use Rattle.std.specs.Prelude.{◌≡◌, ◌≤◌, true, false, length, Some, MatchOption};
 ghost use Rattle.sim.specs.Identity.{all_zero, digit_run, is_padded, is_identity, padded, unpadded};
-ghost use Rattle.std.specs.Cmp.Rules.{comparing};
-ghost use Rattle.std.specs.Ordering.{on};
-ghost use Rattle.std.specs.Cmp.Lexicographic.{pointwise};
-ghost use Rattle.std.proofs.Common.{rules};
 
 use std::fmt;
 
@@ -13,27 +9,18 @@ fn digit_run(text: &[u8]) -> usize
     ensures value { result ≡ digit_run text.now }
     ensures within { result ≤ length text.now }
 {
-    let mut n = 0;
-    while n < text.len() && text[n].is_ascii_digit() {
-        n += 1;
-    }
-    n
+    text.iter().take_while(|b| b.is_ascii_digit()).count()
 }
 
 // Whether each byte is zero.
 fn is_zero(bytes: &[u8]) -> bool
     ensures { result ≡ all_zero bytes.now }
 {
-    for b in bytes {
-        if *b != 0 {
-            return false;
-        }
-    }
-    true
+    bytes.iter().all(|b| *b == 0)
 }
 
 // 6 to 20 decimal digits, held as they stand in a block: in ASCII, zeros after the last.
-#[derive(Clone, Copy, Eq, Debug)]
+#[derive(Clone, Copy, PartialEq, Eq, Debug)]
 pub struct Identity {
     digits: [u8; 20],
     ghost ok: { is_padded digits ≡ true },
@@ -77,20 +64,6 @@ impl Identity {
         ensures { result ≡ self.now.digits }
     {
         self.digits
-    }
-}
-
-// Two identities are the same where their digits are.
-impl PartialEq for Identity {
-    ghost eq = { on (λ i. i.digits) (pointwise ◌==◌) };
-
-    ghost laws = { Prim.search (comparing, rules) };
-
-    fn eq(&self, other: &Identity) -> bool
-        ensures same { Decides result (self.now.digits ≡ other.now.digits) }
-        ensures value { result ≡ pointwise ◌==◌ self.now.digits other.now.digits }
-    {
-        other.digits == self.digits
     }
 }
 

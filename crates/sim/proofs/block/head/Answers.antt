@@ -1,12 +1,9 @@
 use Rattle.std.proofs.Common.{◌≡◌, ℕ, ◌≤◌, List, ◌++◌, length, replicate, sym, ap, ◌∙◌, arith, length-append, rules}
 use borrow.Rule.Slice.PartMut.{put_mid}
-use Rattle.std.proofs.lemmas.List.{places, append_assoc, append-nil}
+use Rattle.std.proofs.lemmas.List.{append_assoc, append-nil}
 use Rattle.sim.specs.Block.{sim_head, little_endian}
 use Rattle.sim.proofs.Bytes.{put_after, little_4, little_8}
 use Rattle.sim.proofs.block.head.Goals as goal
-
-pub slice_bounds-bytes-end-2 : goal.slice_bounds-bytes-end-2
-slice_bounds-bytes-end-2 c = search (rules, places)
 
 two : (d k : List ℕ) → length d ≡ 20 → length k ≡ 4 → put_mid 20 4 (d ++ replicate 12 0) k ≡ d ++ (k ++ replicate 8 0)
 two d k long wide = put_after d k 20 4 8 long wide
