@@ -11,6 +11,26 @@ use Rattle.sheet_error.specs.declared.cause.Number.TheVariants as number
 use Rattle.sheet_error.specs.declared.cause.SheetError.{SheetError}
 use Rattle.sheet_error.specs.declared.cause.SheetError.TheVariants as error
 
+-- the word that a header's line begins with
+abbrev pub header_text : Header → List ℕ
+header_text header.Tray = codes "tray"
+header_text header.Hash = codes "hash"
+header_text header.Blocks = codes "blocks"
+
+-- what a number stands for
+abbrev pub number_text : Number → List ℕ
+number_text number.Tray = codes "tray number"
+number_text number.Blocks = codes "number of blocks"
+number_text number.KeyIndex = codes "key index"
+number_text number.Sequence = codes "sequence number"
+
+-- the words of a line
+abbrev pub form_text : Keyword → List ℕ
+form_text keyword.Tray = codes "tray NUMBER"
+form_text keyword.Hash = codes "hash siphash KEY"
+form_text keyword.Blocks = codes "blocks NUMBER"
+form_text keyword.Sim = codes "sim IDENTITY KEY-INDEX SEQUENCE-NUMBER"
+
 abbrev pub wrong_words_text : Keyword → List ℕ
 wrong_words_text keyword.Tray = codes "wrong number of words (tray NUMBER)"
 wrong_words_text keyword.Hash = codes "wrong number of words (hash siphash KEY)"

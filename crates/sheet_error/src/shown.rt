@@ -1,93 +1,78 @@
 // What a refusal says to its reader.
 ghost use Rattle.std.specs.Prelude.{◌≡◌, Some};
-ghost use Rattle.sheet_error.specs.Wording.{wrong_words_text, not_decimal_text, out_of_range_text, missing_text, repeated_text, late_text, cause_text, error_text};
+ghost use Rattle.sheet_error.specs.Wording.{header_text, number_text, form_text, cause_text, error_text};
 
 use crate::cause::{Cause, Header, Keyword, Number, SheetError};
 use std::error::Error;
 use std::fmt;
 
-// The causes that name a line, a number or a header have one text for each.
-fn wrong_words(what: Keyword) -> &'static str
-    ensures { result.now ≡ wrong_words_text what }
-{
-    match what {
-        Keyword::Tray => "wrong number of words (tray NUMBER)",
-        Keyword::Hash => "wrong number of words (hash siphash KEY)",
-        Keyword::Blocks => "wrong number of words (blocks NUMBER)",
-        Keyword::Sim => "wrong number of words (sim IDENTITY KEY-INDEX SEQUENCE-NUMBER)",
+// The word that the line begins with.
+impl fmt::Display for Header {
+    ghost output = { λ h. Some (header_text h) };
+
+    fn fmt<W: fmt::Write>(&self, f: &mut fmt::Formatter<W>) -> fmt::Result {
+        f.write_str(match self {
+            Header::Tray => "tray",
+            Header::Hash => "hash",
+            Header::Blocks => "blocks",
+        })
     }
 }
 
-fn not_decimal(what: Number) -> &'static str
-    ensures { result.now ≡ not_decimal_text what }
-{
-    match what {
-        Number::Tray => "tray number is not written in decimal digits",
-        Number::Blocks => "number of blocks is not written in decimal digits",
-        Number::KeyIndex => "key index is not written in decimal digits",
-        Number::Sequence => "sequence number is not written in decimal digits",
+// What the number stands for.
+impl fmt::Display for Number {
+    ghost output = { λ n. Some (number_text n) };
+
+    fn fmt<W: fmt::Write>(&self, f: &mut fmt::Formatter<W>) -> fmt::Result {
+        f.write_str(match self {
+            Number::Tray => "tray number",
+            Number::Blocks => "number of blocks",
+            Number::KeyIndex => "key index",
+            Number::Sequence => "sequence number",
+        })
     }
 }
 
-fn out_of_range(what: Number) -> &'static str
-    ensures { result.now ≡ out_of_range_text what }
-{
-    match what {
-        Number::Tray => "tray number out of range (1 to 4294967295)",
-        Number::Blocks => "number of blocks out of range (1 to 4096)",
-        Number::KeyIndex => "key index out of range (0 to 65535)",
-        Number::Sequence => "sequence number out of range (0 to 281474976710655)",
-    }
-}
+// The words of a line that begins with this one.
+impl fmt::Display for Keyword {
+    ghost output = { λ k. Some (form_text k) };
 
-fn missing(what: Header) -> &'static str
-    ensures { result.now ≡ missing_text what }
-{
-    match what {
-        Header::Tray => "tray is missing",
-        Header::Hash => "hash is missing",
-        Header::Blocks => "blocks is missing",
-    }
-}
-
-fn repeated(what: Header) -> &'static str
-    ensures { result.now ≡ repeated_text what }
-{
-    match what {
-        Header::Tray => "tray stands twice",
-        Header::Hash => "hash stands twice",
-        Header::Blocks => "blocks stands twice",
-    }
-}
-
-fn late(what: Header) -> &'static str
-    ensures { result.now ≡ late_text what }
-{
-    match what {
-        Header::Tray => "tray stands after the first sim",
-        Header::Hash => "hash stands after the first sim",
-        Header::Blocks => "blocks stands after the first sim",
+    fn fmt<W: fmt::Write>(&self, f: &mut fmt::Formatter<W>) -> fmt::Result {
+        f.write_str(match self {
+            Keyword::Tray => "tray NUMBER",
+            Keyword::Hash => "hash siphash KEY",
+            Keyword::Blocks => "blocks NUMBER",
+            Keyword::Sim => "sim IDENTITY KEY-INDEX SEQUENCE-NUMBER",
+        })
     }
 }
 
 // What is wrong with a line.
-fn text(cause: Cause) -> &'static str
-    ensures { result.now ≡ cause_text cause }
-{
-    match cause {
-        Cause::UnknownWord => "the first word is none of tray, hash, blocks and sim",
-        Cause::WordCount(what) => wrong_words(what),
-        Cause::NotANumber(what) => not_decimal(what),
-        Cause::OutOfRange(what) => out_of_range(what),
-        Cause::IdentityLength => "identity is not 6 to 20 digits long",
-        Cause::IdentityDigit => "identity has something else than decimal digits",
-        Cause::UnknownHash => "unknown hash (siphash)",
-        Cause::KeyLength => "key is not 32 hexadecimal digits long",
-        Cause::KeyDigit => "key has something else than hexadecimal digits",
-        Cause::Missing(what) => missing(what),
-        Cause::Repeated(what) => repeated(what),
-        Cause::Late(what) => late(what),
-        Cause::TooManySims => "more SIMs than blocks",
+impl fmt::Display for Cause {
+    ghost output = { λ c. Some (cause_text c) };
+
+    fn fmt<W: fmt::Write>(&self, f: &mut fmt::Formatter<W>) -> fmt::Result {
+        match *self {
+            Cause::UnknownWord => {
+                f.write_str("the first word is none of tray, hash, blocks and sim")
+            }
+            Cause::WordCount(what) => write!(f, "wrong number of words ({what})"),
+            Cause::NotANumber(what) => write!(f, "{what} is not written in decimal digits"),
+            Cause::OutOfRange(what) => {
+                let least = what.least();
+                let most = what.most();
+                write!(f, "{what} out of range ({least} to {most})")
+            }
+            Cause::IdentityLength => f.write_str("identity is not 6 to 20 digits long"),
+            Cause::IdentityDigit => f.write_str("identity has something else than decimal digits"),
+            Cause::UnknownHash => f.write_str("unknown hash (siphash)"),
+            Cause::KeyLength => f.write_str("key is not 32 hexadecimal digits long"),
+            Cause::KeyDigit => f.write_str("key has something else than hexadecimal digits"),
+            Cause::Missing(what) => write!(f, "{what} is missing"),
+            Cause::Repeated(what) => write!(f, "{what} stands twice"),
+            Cause::Late(what) => write!(f, "{what} stands after the first sim"),
+            Cause::TooManySims => f.write_str("more SIMs than blocks"),
+        }
     }
 }
 
@@ -97,7 +82,7 @@ impl fmt::Display for SheetError {
 
     fn fmt<W: fmt::Write>(&self, f: &mut fmt::Formatter<W>) -> fmt::Result {
         match *self {
-            SheetError::Bad { line, cause } => write!(f, "line {line}: {}", text(cause)),
+            SheetError::Bad { line, cause } => write!(f, "line {line}: {cause}"),
             SheetError::NoMemory => f.write_str("out of memory"),
         }
     }
