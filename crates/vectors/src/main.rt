@@ -1,7 +1,6 @@
 // Runs the hashes against the vectors that were published with them.
 #![tactic(auto)]
 
-mod hex;
 mod sip;
 mod tally;
 

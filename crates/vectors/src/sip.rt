@@ -1,11 +1,13 @@
 // The vectors of SipHash-2-4: the length of the message, and the hash in hexadecimal.
-ghost use Rattle.std.specs.Prelude.{◌≡◌, ℕ, List, IfOk, Decides, MatchOption};
+ghost use Rattle.std.specs.Prelude.{◌≡◌, ℕ, List, IfOk, Decides, MatchOption, vec_items};
+ghost use Rattle.std.specs.Option.{option_map};
+ghost use Rattle.vectors.specs.Hex.{unhex};
 ghost use Rattle.std.specs.List.{range_with_len};
 ghost use Rattle.vectors.specs.Sip.{Judged, Says, Tallies, expected};
 
-use crate::hex;
 use crate::tally::{Problem, Tally};
 use digest::siphash::siphash_2_4;
+use hex::decode_to_slice;
 use std::alloc::{AllocError, Global};
 
 // Every vector has this key.
@@ -25,6 +27,17 @@ fn message(heap: Global, length: u8) -> Result<Vec<u8>, AllocError>
     (0..length).collect(heap)
 }
 
+// The bytes that a text writes, two hexadecimal digits to a byte, if it writes any.
+fn bytes_of(heap: Global, text: &[u8]) -> Result<Option<Vec<u8>>, AllocError>
+    ensures { IfOk result (λ o. option_map vec_items o ≡ unhex text.now) }
+{
+    let mut bytes = vec![in heap; 0u8; text.len() / 2]?;
+    match decode_to_slice(text, bytes.as_mut_slice()) {
+        Ok(()) => Ok(Some(bytes)),
+        Err(_) => Ok(None),
+    }
+}
+
 // A line such as `1 fd67dc93c539f874`.
 fn read(heap: Global, line: &str) -> Result<Option<Vector>, AllocError>
     ensures { IfOk result (λ o. MatchOption o ((n : ℕ) (hash : List ℕ) → Says line.now n hash → ⊥) (λ v. Says line.now v.length v.hash.items)) }
@@ -35,10 +48,10 @@ fn read(heap: Global, line: &str) -> Result<Option<Vector>, AllocError>
     let Ok(length) = length.parse::<u8>() else {
         return Ok(None);
     };
-    match hex::bytes_of(heap, hash.as_bytes())? {
-        Some(hash) => Ok(Some(Vector { length, hash })),
-        None => Ok(None),
-    }
+    let Some(hash) = bytes_of(heap, hash.as_bytes())? else {
+        return Ok(None);
+    };
+    Ok(Some(Vector { length, hash }))
 }
 
 impl Vector {
