@@ -1,4 +1,5 @@
 mod Volume
+mod Loaded
 mod Hex
 mod SimLines
 mod Reported

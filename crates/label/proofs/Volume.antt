@@ -14,19 +14,3 @@ module _ (sims : List Sim) (blocks : ℕ) (room : length sims ≤ blocks) where
   -- its first blocks hold the SIMs
   pub volume_sims : take (length sims) (volume_of sims blocks) ≡ map sim_block sims
   volume_sims = take_at (map sim_block sims) (replicate (blocks - length sims) zero_block) (length sims) (length-map sims sim_block)
-
-  -- one block more, which holds a SIM
-  pub volume_sim : (k : ℕ) (s : Sim) → k < length sims → take (k + 1) (volume_of sims blocks) ≡ take k (volume_of sims blocks) ++ sim_block (get_or sims k s) ∷ []
-  volume_sim k s h =
-      let within : k < length (map sim_block sims) = omega (arith, length-map sims sim_block) in
-      take_more (volume_of sims blocks) k [] (omega (arith, volume_length))
-      ∙ ap (λ b. take k (volume_of sims blocks) ++ b ∷ [])
-      (get_or_append_left (map sim_block sims) (replicate (blocks - length sims) zero_block) [] k within ∙ get_or-map sim_block sims k s [] h)
-
-  -- one block more, past the last SIM
-  pub volume_zero : (k : ℕ) → length sims ≤ k → k < blocks → take (k + 1) (volume_of sims blocks) ≡ take k (volume_of sims blocks) ++ zero_block ∷ []
-  volume_zero k past h =
-      take_more (volume_of sims blocks) k [] (omega (arith, volume_length))
-      ∙ ap (λ b. take k (volume_of sims blocks) ++ b ∷ [])
-      (get_or-append_right (map sim_block sims) (replicate (blocks - length sims) zero_block) (length sims) k [] (length-map sims sim_block) past
-      ∙ get_or-replicate (blocks - length sims) (k - length sims) zero_block [] (omega arith))

@@ -1,9 +1,9 @@
 // The lines of a report. Each function adds its lines to a text, and fails only where memory runs out.
-ghost use Rattle.std.specs.Prelude.{◌≡◌, ◌<◌, List, ◌++◌, map, string_bytes, OnOk};
-ghost use Rattle.label.specs.Report.{head_line, sim_line, sim_lines, tree_line, label_line, hex, hex_digit};
+ghost use Rattle.std.specs.Prelude.{◌≡◌, List, ◌++◌, map, string_bytes, OnOk};
+ghost use Rattle.label.specs.Report.{head_line, sim_line, sim_lines, tree_line, label_line};
 ghost use Rattle.sim.specs.Block.{sim_block};
 
-use std::alloc::AllocError;
+use std::alloc::{AllocError, Global};
 use subscriber::{Sim, decode};
 
 pub(crate) fn write_head(
@@ -47,33 +47,14 @@ pub(crate) fn write_tree(text: &mut String, levels: usize, blocks: usize) -> Res
     writeln!(text, "tree: levels {levels}, blocks {blocks}")
 }
 
-fn hex_digit(n: u8) -> char
-    requires { n < 16 }
-    ensures { result ≡ hex_digit n }
-{
-    if n < 10 {
-        char::from(b'0' + n)
-    } else {
-        char::from(b'a' - 10 + n)
-    }
-}
-
-// Two digits to a byte.
-fn write_hex(text: &mut String, bytes: &[u8]) -> Result<(), AllocError>
-    ensures { OnOk result (string_bytes text.new ≡ string_bytes text.old ++ hex bytes.now) }
-{
-    for byte in bytes {
-        let high = hex_digit(*byte / 16);
-        let low = hex_digit(*byte % 16);
-        write!(text, "{high}{low}")?;
-    }
-    Ok(())
-}
-
-pub(crate) fn write_label(text: &mut String, kind: u8, root: &[u8]) -> Result<(), AllocError>
+pub(crate) fn write_label(
+    heap: Global,
+    text: &mut String,
+    kind: u8,
+    root: &[u8; 32],
+) -> Result<(), AllocError>
     ensures { OnOk result (string_bytes text.new ≡ string_bytes text.old ++ label_line kind root.now) }
 {
-    write!(text, "label: kind {kind}, root ")?;
-    write_hex(text, root)?;
-    writeln!(text)
+    let root = hex::encode(heap, root.as_slice())?;
+    writeln!(text, "label: kind {kind}, root {root}")
 }

@@ -12,13 +12,9 @@ pub(crate) fn load(heap: Global, geometry: Geometry, sims: &[Sim]) -> Result<Con
     requires { length sims.now ≤ geometry.blocks }
     ensures { IfOk result (λ c. c.blocks.items ≡ volume_of sims.now geometry.blocks) }
 {
-    let mut blocks = Vec::with_capacity(heap, geometry.blocks)?;
-    for k in 0..geometry.blocks {
-        let block = match sims.get(k) {
-            Some(sim) => encode(sim),
-            None => [0u8; 512],
-        };
-        blocks.push(block)?;
+    let mut contents = Contents::zeros(heap, geometry)?;
+    for (k, sim) in sims.iter().enumerate() {
+        contents.put(k, &encode(sim)).unwrap();
     }
-    Ok(Contents { blocks })
+    Ok(contents)
 }

@@ -15,6 +15,7 @@ use tree::layout::Tree;
 
 // The whole report. The SIMs are read again from the blocks that the tree lies over.
 fn write_report(
+    heap: Global,
     text: &mut String,
     sheet: &Sheet,
     contents: &Contents,
@@ -28,16 +29,14 @@ fn write_report(
     write_head(text, sheet.tray.value, sims, sheet.blocks.value)?;
     let (held, _) = contents.blocks.as_slice().split_at(sims);
     write_sims(text, held)?;
-    let geometry = Geometry {
-        blocks: contents.blocks.len(),
-    };
+    let geometry = contents.geometry();
     write_tree(text, geometry.levels(), geometry.total())?;
-    write_label(text, kind, root)
+    write_label(heap, text, kind, root)
 }
 
 // The report of a tray under a hash.
 pub(crate) fn report<H: Hash>(heap: Global, sheet: &Sheet, hash: &H) -> Result<String, AllocError>
-    ensures { IfOk result (λ s. string_bytes s ≡ report_with sheet.now.tray.value sheet.now.blocks.value sheet.now.sims.items H.Hash.number (root_of (H.Hash.image hash.now) (volume_of sheet.now.sims.items sheet.now.blocks.value))) }
+    ensures { IfOk result (λ s. string_bytes s ≡ report_with sheet.now.tray.value sheet.now.blocks.value sheet.now.sims.items H.Hash.KIND (root_of (H.Hash.image hash.now) (volume_of sheet.now.sims.items sheet.now.blocks.value))) }
 {
     let geometry = Geometry {
         blocks: usize::from(sheet.blocks.value),
@@ -45,6 +44,6 @@ pub(crate) fn report<H: Hash>(heap: Global, sheet: &Sheet, hash: &H) -> Result<S
     let contents = load(heap, geometry, sheet.sims.as_slice())?;
     let tree = Tree::over(heap, hash, &contents)?;
     let mut text = String::new(heap);
-    write_report(&mut text, sheet, &contents, H::kind_number(), &tree.root)?;
+    write_report(heap, &mut text, sheet, &contents, H::KIND, &tree.root)?;
     Ok(text)
 }

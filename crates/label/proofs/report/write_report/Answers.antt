@@ -7,13 +7,6 @@ use Rattle.label.proofs.Volume.{volume_length, volume_sims}
 use Rattle.label.proofs.Reported.{reported}
 use Rattle.label.proofs.report.write_report.Goals as goal
 
-pub split_at-requires : goal.split_at-requires
-split_at-requires c =
-    let sheet = c.args.sheet.now in
-    let sims = vec_items sheet.sims in
-    let room : length sims ≤ sheet.blocks.value = omega (arith, sheet.few, sheet.sims.ok.0) in
-    omega (arith, c.len-sims.ensures, sheet.sims.ok.0, ap length c.as_slice.ensures.value, ap length c.requires, volume_length sims sheet.blocks.value room)
-
 pub returns : goal.returns
 returns c =
     let sheet = c.args.sheet.now in
@@ -26,7 +19,7 @@ returns c =
     let count : c.len-sims.result ≡ length sims = c.len-sims.ensures ∙ sheet.sims.ok.0 in
     let held : map sim_block sims ≡ c.split_at.result.0.now =
     sym (c.split_at.ensures.front ∙ (λ i. take (count i) ((c.as_slice.ensures.value ∙ c.requires) i)) ∙ volume_sims sims blocks room) in
-    let size : c.len.result ≡ blocks = c.len.ensures ∙ c.args.contents.now.blocks.ok.0 ∙ ap length c.requires ∙ volume_length sims blocks room in
+    let size : c.geometry-geometry.result.blocks ≡ blocks = c.geometry-geometry.ensures ∙ c.args.contents.now.blocks.ok.0 ∙ ap length c.requires ∙ volume_length sims blocks room in
     let before = string_bytes c.args.text.now in
     let head = string_bytes c.write_head.new.text in
     let lines = string_bytes c.write_sims.new.text in
