@@ -1,7 +1,7 @@
 -- One SIM more in the volume of a tray. Assumes nothing.
 use Rattle.std.proofs.Common.{◌≡◌, ℕ, suc, ◌+◌, ◌-◌, ◌<◌, ◌≤◌, List, [], ◌∷◌, ◌++◌, map, length, get_or, take, set, replicate, Ok, Err, Result, sym, ap, ◌∙◌, append_assoc, arith, length-append, MatchResult}
 use lib.ListN.{length-map, length-replicate}
-use Rattle.std.proofs.lemmas.List.{set_at, map_more, length-take-le, take_all}
+use Rattle.std.proofs.lemmas.List.{set_at, map_more, length-take-le}
 
 -- what was answered where the error is out of the question
 pub not_refused : {T E : Type 0} (r : Result T E) (P : Type 0) (Q : E → Type 0) → MatchResult r (λ _. P) Q → ((e : E) → Q e → ⊥) → P

@@ -1,8 +1,8 @@
 -- The report, put together. Assumes nothing.
-use Rattle.std.proofs.Common.{◌≡◌, ℕ, List, ◌++◌, length, codes, decimal, ap, ◌∙◌, append_assoc}
+use Rattle.std.proofs.Common.{◌≡◌, ℕ, List, ◌++◌, length, ap, ◌∙◌, append_assoc}
 use Rattle.sim.specs.declared.Sim.{Sim}
 use Rattle.tree.specs.Geometry.{levels, total}
-use Rattle.label.specs.Report.{head_line, sim_lines, tree_line, label_line, hex, report_with}
+use Rattle.label.specs.Report.{head_line, sim_lines, tree_line, label_line, report_with}
 
 in_a_row : (t a b c d : List ℕ) → (((t ++ a) ++ b) ++ c) ++ d ≡ t ++ (a ++ (b ++ (c ++ d)))
 in_a_row t a b c d = simp append_assoc

@@ -1,7 +1,7 @@
 -- The volume of a tray, block by block. Assumes nothing.
-use Rattle.std.proofs.Common.{◌≡◌, ℕ, ◌+◌, ◌-◌, ◌<◌, ◌≤◌, List, [], ◌∷◌, ◌++◌, map, length, get_or, take, replicate, ap, ◌∙◌, arith, length-append}
+use Rattle.std.proofs.Common.{◌≡◌, ℕ, ◌-◌, ◌≤◌, List, map, length, take, replicate, arith, length-append}
 use lib.ListN.{length-map, length-replicate}
-use Rattle.std.proofs.lemmas.List.{take_more, take_at, get_or-map, get_or_append_left, get_or-append_right, get_or-replicate}
+use Rattle.std.proofs.lemmas.List.{take_at}
 use Rattle.sim.specs.Block.{sim_block}
 use Rattle.sim.specs.declared.Sim.{Sim}
 use Rattle.tree.specs.Layout.{zero_block}

@@ -6,28 +6,20 @@ use std::io::Read;
 use std::process::ExitCode;
 use std::{env, io};
 use subscriber::cause::SheetError;
+use thiserror::Error;
 
 const USAGE: &str =
     "usage: simbox label < SHEET   print the label of a tray from its sheet\n       simbox --help          print this\n";
 
-// Why the program ends without having done its work.
-#[derive(Drop)]
+// Why the program ends without having done its work, and what it says then.
+#[derive(Debug, Drop, Error)]
 enum Stop {
+    #[error("{USAGE}")]
     Usage,
-    Sheet(SheetError),
-    Io(io::Error),
-}
-
-impl From<SheetError> for Stop {
-    fn from(e: SheetError) -> Stop {
-        Stop::Sheet(e)
-    }
-}
-
-impl From<io::Error> for Stop {
-    fn from(e: io::Error) -> Stop {
-        Stop::Io(e)
-    }
+    #[error("simbox: {0}\n")]
+    Sheet(#[from] SheetError),
+    #[error("simbox: {0}\n")]
+    Io(#[from] io::Error),
 }
 
 // Reads the whole sheet before anything is printed, so that a bad one leaves standard output empty.
@@ -57,19 +49,11 @@ fn run(rt: &HostRuntime) -> Result<(), Stop> {
     }
 }
 
-fn complain(rt: &HostRuntime, stop: Stop) -> io::Result<()> {
-    match stop {
-        Stop::Usage => rt.eprint(USAGE),
-        Stop::Sheet(e) => eprintln!(rt; "simbox: {e}"),
-        Stop::Io(e) => eprintln!(rt; "simbox: {e}"),
-    }
-}
-
 fn main(rt: HostRuntime) -> ExitCode {
     let Err(stop) = run(&rt) else {
         return ExitCode::SUCCESS;
     };
-    match complain(&rt, stop) {
+    match rt.eprint(stop) {
         // Where even the complaint cannot be written, the status still tells.
         Ok(()) | Err(_) => ExitCode::FAILURE,
     }

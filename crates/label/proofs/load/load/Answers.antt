@@ -1,8 +1,8 @@
-use Rattle.std.proofs.Common.{◌≡◌, ◌-◌, ◌≤◌, ◌++◌, map, length, set, replicate, vec_items, vec_len, sym, ap, ◌∙◌, arith}
+use Rattle.std.proofs.Common.{◌≡◌, ◌≤◌, length, set, vec_items, vec_len, ap, ◌∙◌, arith}
 use lib.ListN.{length-replicate}
 use Rattle.sim.specs.Block.{sim_block}
 use Rattle.tree.specs.Layout.{zero_block}
-use Rattle.label.proofs.Loaded.{not_refused, loaded_none, loaded_more, loaded_length, loaded_all}
+use Rattle.label.proofs.Loaded.{not_refused, loaded_more, loaded_length}
 use Rattle.label.proofs.load.load.Goals as goal
 use Rattle.label.proofs.load.load.Goals.{In_ok-contents}
 
