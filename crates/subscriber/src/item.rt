@@ -83,7 +83,7 @@ fn tray_line(rest: &[u8]) -> Result<Item, Cause>
         return Err(Cause::WordCount(Keyword::Tray));
     }
     let n = number(cut_word(rest).piece, Number::Tray)?;
-    Ok(Item::Tray(TrayNumber::of(n as u32)))
+    Ok(Item::Tray(TrayNumber { value: n as u32 }))
 }
 
 // The words after `hash`.
@@ -107,7 +107,7 @@ fn blocks_line(rest: &[u8]) -> Result<Item, Cause>
         return Err(Cause::WordCount(Keyword::Blocks));
     }
     let n = number(cut_word(rest).piece, Number::Blocks)?;
-    Ok(Item::Blocks(BlockCount::of(n as u16)))
+    Ok(Item::Blocks(BlockCount { value: n as u16 }))
 }
 
 // The words after `sim`.
