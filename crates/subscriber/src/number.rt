@@ -4,7 +4,6 @@ ghost use Rattle.subscriber.specs.Number.{digits_after, is_decimal, number_in};
 ghost use Rattle.sheet_error.specs.Range.{least, most};
 
 use crate::cause::{Cause, Number};
-use crate::scan::{Class, run};
 
 // The number that the digits write, or `None` past `most`.
 fn decimal(digits: &[u8], most: u64) -> Option<u64>
@@ -22,16 +21,15 @@ fn decimal(digits: &[u8], most: u64) -> Option<u64>
 }
 
 // Whether the word is one decimal digit or more, and nothing else.
+#[tactic(auto, unfolding(crate::specs::Number::is_decimal))]
 fn is_decimal(word: &[u8]) -> bool
     ensures { result ≡ is_decimal word.now }
 {
-    if word.is_empty() {
-        return false;
-    }
-    run(word, Class::Digit) == word.len()
+    !word.is_empty() && word.iter().all(|b| b.is_ascii_digit())
 }
 
-// A word as a number of this kind.
+// A word as a number of this kind. It is in its range, so an `as` to the type that holds that loses nothing.
+#[tactic(auto, unfolding(crate::specs::Number::number_in))]
 pub(crate) fn number(word: &[u8], what: Number) -> Result<u64, Cause>
     ensures value { result ≡ number_in what word.now }
     ensures ranged { IfOk result (λ n. (least what ≤ n) × (n ≤ most what)) }
