@@ -9,7 +9,6 @@ mod hex;
 mod item;
 mod number;
 pub mod read;
-mod scan;
 pub mod sheet;
 mod step;
 mod text;
