@@ -8,7 +8,7 @@ ghost use Rattle.subscriber.specs.Number.{number_in};
 
 use crate::block_count::BlockCount;
 use crate::cause::{Cause, Keyword, Number};
-use crate::hex::hex_key;
+use crate::key::hex_key;
 use crate::number::number;
 use crate::text::Words;
 use crate::tray::{HashChoice, TrayNumber};

@@ -3,10 +3,12 @@
 #![tactic(auto)]
 
 pub mod block_count;
+
 pub use sheet_error::cause;
+
 mod headers;
-mod hex;
 mod item;
+mod key;
 mod number;
 pub mod read;
 pub mod sheet;
