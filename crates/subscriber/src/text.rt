@@ -51,7 +51,7 @@ impl<'a> Iterator for Words<'a> {
 
     fn next(&mut self) -> Option<&'a [u8]> {
         let start = self.text.iter().position(|b| !is_blank(*b))?;
-        let (_, line) = self.text.split_at(start);
+        let line = &self.text[start..];
         let end = line.iter().take_while(|b| !is_blank(**b)).count();
         let (word, rest) = line.split_at(end);
         self.text = rest;
