@@ -3,6 +3,7 @@ use Rattle.std.proofs.Common.{◌≡◌, ℕ, ◌+◌, ◌*◌, ◌/◌, ◌%◌
 use Rattle.std.proofs.lemmas.Bool.Decides.{nat_tests}
 use Rattle.std.proofs.lemmas.Bool.{cases_eq, eqb-true, eqb-false, ne_eqb}
 use Rattle.std.specs.Char.{digit_value}
+use Rattle.std.specs.Result.{result_map_both}
 use Rattle.hex.specs.Hex.{decode_pairs, decode_sized, hex_digit_value, pair_value}
 use Rattle.hex.specs.declared.error.FromHexError.{FromHexError}
 use Rattle.hex.specs.declared.error.FromHexError.TheVariants.{InvalidHexCharacter, OddLength, InvalidStringLength, OutOfMemory}
@@ -18,6 +19,7 @@ cause_of OddLength = KeyLength
 cause_of InvalidStringLength = KeyLength
 cause_of OutOfMemory = KeyLength
 
+-- a digit, as the crate hex reads it
 pub digit_same : (c : ℕ) → hex_digit_value c ≡ cond (ltb (digit_value c) 16) (Some (digit_value c)) None
 digit_same c = grind (arith, nat_tests)
 
@@ -47,24 +49,19 @@ reads_pairs i [] even = (refl, refl)
 reads_pairs i (a ∷ []) even = absurd (omega arith)
 reads_pairs i (a ∷ b ∷ cs) even = reads_pair a b i cs _ _ refl refl (reads_pairs (i + 2) cs (omega arith))
 
--- the same answer, with the cause
-abbrev pub with_cause : Result (List ℕ) FromHexError → Result (List ℕ) Cause
-with_cause (Ok bytes) = Ok bytes
-with_cause (Err e) = Err (cause_of e)
-
-key_whole : (w : List ℕ) (r : Result (List ℕ) FromHexError) → length w ≡ 32 → Reads w r → key_in w ≡ with_cause r
+key_whole : (w : List ℕ) (r : Result (List ℕ) FromHexError) → length w ≡ 32 → Reads w r → key_in w ≡ result_map_both (λ key. key) cause_of r
 unfolding key_in
 key_whole w (Ok bytes) long h = rw (long, h.0, h.1) refl
 key_whole w (Err e) long h = rw (long, h.0, h.1) refl
 
-key_short : (w : List ℕ) (p q : Bool) → eqb (length w % 2) 1 ≡ p → eqb (length w / 2) 16 ≡ q → (length w ≡ 32 → ⊥) → key_in w ≡ with_cause (decode_sized w 16)
+key_short : (w : List ℕ) (p q : Bool) → eqb (length w % 2) 1 ≡ p → eqb (length w / 2) 16 ≡ q → (length w ≡ 32 → ⊥) → key_in w ≡ result_map_both (λ key. key) cause_of (decode_sized w 16)
 unfolding key_in
 key_short w true q p _ other = rw (ne_eqb _ 32 other, p) refl
 key_short w false false p q other = rw (ne_eqb _ 32 other, p, q) refl
 key_short w false true p q other = absurd (other (omega (arith, eqb-false _ _ p, eqb-true _ _ q)))
 
 -- a key as the crate hex reads it
-pub key_reads : (w : List ℕ) → key_in w ≡ with_cause (decode_sized w 16)
+pub key_reads : (w : List ℕ) → key_in w ≡ result_map_both (λ key. key) cause_of (decode_sized w 16)
 key_reads w =
     elim (cases_eq (length w) 32) [
       | inl long ↦ key_whole w _ long (reads_pairs 0 w (omega arith)) ∙ rw (decode_sized-pairs w 16 (omega arith) (omega arith)) refl

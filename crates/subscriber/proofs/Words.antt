@@ -1,6 +1,6 @@
 -- Where the words of a line begin and end.
 use Rattle.std.proofs.Common.{◌≡◌, ℕ, ◌+◌, Bool, true, false, cond, not, List, [], ◌∷◌, length, get_or, take, drop, Some, None, sym, refl, ap, ◌∙◌, subst, inl, inr, one-add, arith}
-use Rattle.std.proofs.lemmas.Bool.{cases_lt, lt-ltb, cond-true, cond-false}
+use Rattle.std.proofs.lemmas.Bool.{cases_lt, not-true, lt-ltb, cond-true, cond-false}
 use Rattle.std.proofs.lemmas.List.{drop_all, drop_more}
 use Rattle.std.proofs.lemmas.List.Folds.{length-prefix_len}
 use Rattle.std.proofs.lemmas.List.Sums.{position_or_len_is}
@@ -34,10 +34,6 @@ words_skip : (t : List ℕ) → words t ≡ words (drop (position_or_len solid t
 words_skip [] = refl
 words_skip (c ∷ cs) = skip_by c cs (blank c) refl (words_skip cs)
 
-not_true : (b : Bool) → not b ≡ true → b ≡ false
-not_true true e = sym e
-not_true false e = refl
-
 -- a line of blanks has no word
 pub words_none : (t : List ℕ) → None ≡ position solid t → words t ≡ []
 words_none t e =
@@ -53,4 +49,4 @@ words_some t s word rest n m e f g h k =
     let start : s ≡ get_or t n 0 ∷ drop (n + 1) t = f ∙ drop_more t n 0 at.0 in
     let skip : words t ≡ words s = words_skip t ∙ ap (λ i. words (drop i t)) (position_or_len_is solid t n 0 (omega arith) at.2 (λ _. at.1)) ∙ ap words (sym f) in
     let end : prefix_len solid s ≡ m = sym (g ∙ length-prefix_len solid s) in
-    skip ∙ subst (λ u. First u (words u)) (sym start) (word_first (get_or t n 0) (drop (n + 1) t) (not_true _ at.1)) ∙ rw (h, k, end) refl
+    skip ∙ subst (λ u. First u (words u)) (sym start) (word_first (get_or t n 0) (drop (n + 1) t) (not-true _ at.1)) ∙ rw (h, k, end) refl
