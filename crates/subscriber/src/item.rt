@@ -1,8 +1,7 @@
 // What one line of a sheet says.
 ghost use Rattle.std.specs.Prelude.{◌≡◌};
-ghost use Rattle.subscriber.specs.Items.{keyword_of, with_ok, identity_in, hash_in, sim_in, tray_is, hash_is, blocks_are, said, line_says};
+ghost use Rattle.subscriber.specs.Items.{keyword_of, with_ok, identity_in, hash_in, sim_in, tray_is, hash_is, blocks_are, line_says};
 ghost use Rattle.subscriber.specs.Plain.{plain};
-ghost use Rattle.subscriber.specs.Text as text;
 ghost use Rattle.sheet_error.specs.declared.cause.Number.TheVariants as number;
 ghost use Rattle.subscriber.specs.Number.{number_in};
 
@@ -92,10 +91,15 @@ fn sim_line(digits: &[u8], key: &[u8], sequence: &[u8]) -> Result<Item, Cause>
     }))
 }
 
-// What the words of a line say.
-fn read_words(mut words: Words<'_>) -> Result<Item, Cause>
-    ensures { with_ok plain result ≡ said (text.words words.entry.text.now) }
+// What a line says. The words after its keyword are counted by the pattern that they fit.
+#[tactic(auto, unfolding(crate::specs::Items::line_says))]
+pub(crate) fn read_line(line: &[u8]) -> Result<Item, Cause>
+    ensures { with_ok plain result ≡ line_says line.now }
 {
+    if line.starts_with(b"#") {
+        return Ok(Item::Nothing);
+    }
+    let mut words = Words { text: line };
     let Some(first) = words.next() else {
         return Ok(Item::Nothing);
     };
@@ -115,15 +119,4 @@ fn read_words(mut words: Words<'_>) -> Result<Item, Cause>
         }
         (keyword, ..) => Err(Cause::WordCount(keyword)),
     }
-}
-
-// What a line says.
-#[tactic(auto, unfolding(crate::specs::Items::line_says))]
-pub(crate) fn read_line(line: &[u8]) -> Result<Item, Cause>
-    ensures { with_ok plain result ≡ line_says line.now }
-{
-    if line.starts_with(b"#") {
-        return Ok(Item::Nothing);
-    }
-    read_words(Words { text: line })
 }
