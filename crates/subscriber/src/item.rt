@@ -111,9 +111,9 @@ pub(crate) fn read_line(line: &[u8]) -> Result<Item, Cause>
         words.next(),
         words.next(),
     ) {
-        (Keyword::Tray, Some(number), None, _, _) => tray_line(number),
-        (Keyword::Hash, Some(name), Some(key), None, _) => hash_line(name, key),
-        (Keyword::Blocks, Some(number), None, _, _) => blocks_line(number),
+        (Keyword::Tray, Some(number), None, ..) => tray_line(number),
+        (Keyword::Hash, Some(name), Some(key), None, ..) => hash_line(name, key),
+        (Keyword::Blocks, Some(number), None, ..) => blocks_line(number),
         (Keyword::Sim, Some(identity), Some(key), Some(sequence), None) => {
             sim_line(identity, key, sequence)
         }
