@@ -1,7 +1,7 @@
 pub mod Cuts
+pub mod Words
 pub mod Numbers
 pub mod Keys
-pub mod Lines
 pub mod Steps
 pub mod Sheets
 pub mod Listing

@@ -1,4 +1,3 @@
-pub mod Scan
 pub mod Text
 pub mod Number
 pub mod Items

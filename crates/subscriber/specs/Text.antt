@@ -1,6 +1,5 @@
 -- The lines of a text, and the words of a line.
-use Rattle.std.specs.Prelude.{ℕ, Bool, false, cond, not, List, [], ◌∷◌, ◌==◌}
-use Rattle.subscriber.specs.Scan.{blank}
+use Rattle.std.specs.Prelude.{ℕ, Bool, false, ◌||◌, cond, not, List, [], ◌∷◌, ◌==◌}
 
 -- a byte put before the first piece
 abbrev pub onto_first : ℕ → List (List ℕ) → List (List ℕ)
@@ -11,6 +10,10 @@ onto_first c (p ∷ ps) = (c ∷ p) ∷ ps
 abbrev pub lines : List ℕ → List (List ℕ)
 lines [] = []
 lines (c ∷ cs) = cond (c == 10) ([] ∷ lines cs) (onto_first c (lines cs))
+
+-- a space, a tab or a carriage return
+abbrev pub blank : ℕ → Bool
+blank c = c == 32 || (c == 9 || c == 13)
 
 -- whether a word begins here
 abbrev pub begins : List ℕ → Bool

@@ -1,5 +1,5 @@
 // How many blocks a tray has.
-ghost use Rattle.std.specs.Prelude.{◌≡◌, ◌≤◌};
+ghost use Rattle.std.specs.Prelude.{◌≤◌};
 
 // How many blocks a tray has, 1 to 4096.
 #[derive(Clone, Copy, PartialEq, Eq, Debug)]
@@ -7,14 +7,4 @@ pub struct BlockCount {
     pub value: u16,
     ghost low: { 1 ≤ value },
     ghost high: { value ≤ 4096 },
-}
-
-impl BlockCount {
-    pub(crate) fn of(value: u16) -> BlockCount
-        requires low { 1 ≤ value }
-        requires high { value ≤ 4096 }
-        ensures { result.value ≡ value }
-    {
-        BlockCount { value }
-    }
 }

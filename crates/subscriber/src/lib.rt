@@ -3,13 +3,14 @@
 #![tactic(auto)]
 
 pub mod block_count;
+
 pub use sheet_error::cause;
+
 mod headers;
-mod hex;
 mod item;
+mod key;
 mod number;
 pub mod read;
-mod scan;
 pub mod sheet;
 mod step;
 mod text;

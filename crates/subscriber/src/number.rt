@@ -1,37 +1,29 @@
 // Decimal numbers of a sheet.
-ghost use Rattle.std.specs.Prelude.{◌≡◌, ◌^◌, ◌<◌, ◌≤◌, IfOk, MatchOption};
+ghost use Rattle.std.specs.Prelude.{◌≡◌, ◌^◌, ◌<◌, ◌≤◌, IfOk, IsTrue, SomeIff};
 ghost use Rattle.subscriber.specs.Number.{digits_after, is_decimal, number_in};
 ghost use Rattle.sheet_error.specs.Range.{least, most};
 
 use crate::cause::{Cause, Number};
-use crate::scan::{Class, run};
-
-// The number that the digits write, or `None` past `most`.
-fn decimal(digits: &[u8], most: u64) -> Option<u64>
-    requires { most < 2 ^ 48 }
-    ensures { MatchOption result (most < digits_after 0 digits.now) (λ n. (n ≡ digits_after 0 digits.now) × (n ≤ most)) }
-{
-    let mut n = 0;
-    for b in digits {
-        n = n * 10 + u64::from(b.saturating_sub(b'0'));
-        if n > most {
-            return None;
-        }
-    }
-    Some(n)
-}
+use std::str;
 
 // Whether the word is one decimal digit or more, and nothing else.
+#[tactic(auto, unfolding(crate::specs::Number::is_decimal))]
 fn is_decimal(word: &[u8]) -> bool
     ensures { result ≡ is_decimal word.now }
 {
-    if word.is_empty() {
-        return false;
-    }
-    run(word, Class::Digit) == word.len()
+    !word.is_empty() && word.iter().all(|b| b.is_ascii_digit())
 }
 
-// A word as a number of this kind.
+// The number that the digits write, or `None` where 64 bits are too few.
+fn decimal(digits: &[u8]) -> Option<u64>
+    requires { IsTrue (is_decimal digits.now) }
+    ensures { SomeIff result (digits_after 0 digits.now < 2 ^ 64) (digits_after 0 digits.now) }
+{
+    str::from_utf8(digits).unwrap().parse().ok()
+}
+
+// A word as a number of this kind, whose range shows that a caller's `as` loses nothing.
+#[tactic(auto, unfolding(crate::specs::Number::number_in))]
 pub(crate) fn number(word: &[u8], what: Number) -> Result<u64, Cause>
     ensures value { result ≡ number_in what word.now }
     ensures ranged { IfOk result (λ n. (least what ≤ n) × (n ≤ most what)) }
@@ -39,11 +31,7 @@ pub(crate) fn number(word: &[u8], what: Number) -> Result<u64, Cause>
     if !is_decimal(word) {
         return Err(Cause::NotANumber(what));
     }
-    let Some(n) = decimal(word, what.most()) else {
-        return Err(Cause::OutOfRange(what));
-    };
-    if n < what.least() {
-        return Err(Cause::OutOfRange(what));
-    }
-    Ok(n)
+    decimal(word)
+        .filter(|n| (what.least()..=what.most()).contains(n))
+        .ok_or(Cause::OutOfRange(what))
 }

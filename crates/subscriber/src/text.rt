@@ -1,8 +1,6 @@
 // Lines and words of a text.
-ghost use Rattle.std.specs.Prelude.{◌≡◌, ◌+◌, ◌<◌, ◌≤◌, [], ◌∷◌, length, drop, slice_index_or};
-ghost use Rattle.subscriber.specs.Text.{lines, words};
-
-use crate::scan::{Class, run};
+ghost use Rattle.std.specs.Prelude.{◌≡◌, ◌<◌, ◌∷◌, length};
+ghost use Rattle.subscriber.specs.Text.{blank, lines};
 
 // A piece at the front of a text, and what follows it.
 #[derive(Clone, Copy)]
@@ -17,7 +15,7 @@ pub(crate) fn cut_line(text: &[u8]) -> Cut<'_>
     ensures first { lines text.now ≡ result.piece.now ∷ lines result.rest.now }
     ensures shorter { length result.rest.now < length text.now }
 {
-    let end = run(text, Class::Inline);
+    let end = text.iter().take_while(|b| **b != b'\n').count();
     let (piece, rest) = text.split_at(end);
     if rest.is_empty() {
         return Cut { piece, rest };
@@ -28,29 +26,35 @@ pub(crate) fn cut_line(text: &[u8]) -> Cut<'_>
     }
 }
 
-// The first word, which is empty where there is none.
-pub(crate) fn cut_word(line: &[u8]) -> Cut<'_>
-    ensures first { result.piece.now ≡ slice_index_or (words line.now) 0 [] }
-    ensures others { words result.rest.now ≡ drop 1 (words line.now) }
-    ensures shorter { length result.piece.now + length result.rest.now ≤ length line.now }
+// A space, a tab or a carriage return.
+fn is_blank(b: u8) -> bool
+    ensures { result ≡ blank b }
 {
-    let (_, line) = line.split_at(run(line, Class::Blank));
-    let (piece, rest) = line.split_at(run(line, Class::Solid));
-    Cut { piece, rest }
+    matches!(b, b' ' | b'\t' | b'\r')
 }
 
-// How many words the line has.
-pub(crate) fn word_count(line: &[u8]) -> usize
-    ensures { result ≡ length (words line.now) }
-{
-    let mut n = 0;
-    let mut rest = line;
-    loop {
-        let cut = cut_word(rest);
-        if cut.piece.is_empty() {
-            return n;
-        }
-        n += 1;
-        rest = cut.rest;
+// The words of a line, which blanks part.
+#[derive(Drop)]
+pub(crate) struct Words<'a> {
+    pub(crate) text: &'a [u8],
+}
+
+impl<'a> Iterator for Words<'a> {
+    ghost use Rattle.std.specs.Iterator.{YieldsFirstRef, item_count};
+    ghost use Rattle.subscriber.specs.Text.{words};
+
+    type Item = &'a [u8];
+
+    ghost next_gives = { YieldsFirstRef (λ s. words s.text.now) };
+
+    ghost remaining = { item_count (λ s. words s.text.now) };
+
+    fn next(&mut self) -> Option<&'a [u8]> {
+        let start = self.text.iter().position(|b| !is_blank(*b))?;
+        let line = &self.text[start..];
+        let end = line.iter().take_while(|b| !is_blank(**b)).count();
+        let (word, rest) = line.split_at(end);
+        self.text = rest;
+        Some(word)
     }
 }

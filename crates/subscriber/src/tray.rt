@@ -1,20 +1,11 @@
 // The number of a tray, and its hash.
-ghost use Rattle.std.specs.Prelude.{◌≡◌, ◌≤◌};
+ghost use Rattle.std.specs.Prelude.{◌≤◌};
 
 // The number of a tray, 1 to 4294967295.
 #[derive(Clone, Copy, PartialEq, Eq, Debug)]
 pub struct TrayNumber {
     pub value: u32,
     ghost low: { 1 ≤ value },
-}
-
-impl TrayNumber {
-    pub(crate) fn of(value: u32) -> TrayNumber
-        requires { 1 ≤ value }
-        ensures { result.value ≡ value }
-    {
-        TrayNumber { value }
-    }
 }
 
 // The hash of a tray, with its key.

@@ -1,12 +1,12 @@
-use Rattle.std.proofs.Common.{sym, arith}
-use Rattle.std.proofs.lemmas.Bool.{eqb-true, eqb-false}
-use Rattle.subscriber.proofs.Numbers.{decimal_none, decimal_some}
+use Rattle.std.proofs.Common.{arith, rules, tests}
+use Rattle.std.proofs.lemmas.Iterator.{YieldsList-from_slice}
+use Rattle.std.proofs.lemmas.Iterator.Search.{all_from_yields_List}
+use Rattle.std.specs.Char.{is_ascii_digit}
+use Rattle.subscriber.specs.Number.{is_decimal}
 use Rattle.subscriber.proofs.number.is_decimal.Goals as goal
 
-pub returns-then-is_empty : goal.returns-then-is_empty
-returns-then-is_empty c = sym (decimal_none c.args.word.now (eqb-true _ 0 (sym c.if-is_empty.ensures)))
-
-pub returns : goal.returns
-returns c =
-    let some = eqb-false _ 0 (sym c.if-is_empty.ensures) in
-    decimal_some c.args.word.now c.run.result (omega arith) c.run.ensures.value
+pub returns-then-not-is_empty : goal.returns-then-not-is_empty
+unfolding is_decimal
+returns-then-not-is_empty c =
+    let all = all_from_yields_List is_ascii_digit _ _ c.all.result c.all.ensures.ran (YieldsList-from_slice c.args.word.now cc) (λ x b q k. search (rules, tests)) in
+    grind arith
