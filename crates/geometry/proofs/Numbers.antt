@@ -46,6 +46,28 @@ levels_least n l h = by_size (λ k. 1 ≤ k) n l h (λ _. omega arith) (λ _ _. 
 pub levels_most : (n : ℕ) → 1 ≤ n → n ≤ 4096 → levels n ≤ 3
 levels_most n l h = by_size (λ k. k ≤ 3) n l h (λ _. omega arith) (λ _ _. omega arith) (λ _. omega arith)
 
+-- over more than sixteen blocks stands level 0, and then the tree over that level
+pub levels_more : (n : ℕ) → 16 < n → n ≤ 4096 → levels n ≡ suc (levels (up n))
+levels_more n l h =
+    ⊎_elim (λ s. levels_two n l (omega arith) ∙ ap suc (sym (levels_one (up n) (omega arith) (omega arith))))
+    (λ b. levels_three n (omega arith) h ∙ ap suc (sym (levels_two (up n) (omega arith) (omega arith)))) (cases_lt n 257)
+
+width_more : (n l : ℕ) → width n (suc l) ≡ width (up n) l
+width_more n zero = refl
+width_more n (suc l) = ap up (width_more n l)
+
+lower_more : (n l : ℕ) → lower n (suc l) ≡ lower (up n) l + up n
+lower_more n zero = omega arith
+lower_more n (suc l) = omega (arith, width_more n l, lower_more n l)
+
+pub total_more : (n : ℕ) → 16 < n → n ≤ 4096 → total n ≡ total (up n) + up n
+unfolding total
+total_more n l h = ap (lower n) (levels_more n l h) ∙ lower_more n (levels (up n))
+
+pub total_one : (n : ℕ) → 1 ≤ n → n ≤ 16 → total n ≡ 1
+unfolding total
+total_one n l h = ap (lower n) (levels_one n l h) ∙ omega arith
+
 pub level_few : (n l : ℕ) → 1 ≤ n → n ≤ 4096 → l < levels n → l < 3
 level_few n l least most h = omega (arith, levels_most n least most)
 

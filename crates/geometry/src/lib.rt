@@ -16,6 +16,13 @@ pub struct Geometry {
     ghost most: { blocks ≤ 4096 },
 }
 
+// Where an image stands: the tree block's number on the tree device, and the cell in it.
+#[derive(Clone, Copy, Debug, PartialEq, Eq)]
+pub struct Place {
+    pub block: usize,
+    pub cell: usize,
+}
+
 impl Geometry {
     pub fn new(blocks: usize) -> Option<Geometry>
         ensures { MatchOption result ((1 ≤ blocks) × (blocks ≤ 4096) → ⊥) (λ g. g.blocks ≡ blocks) }
@@ -64,15 +71,18 @@ impl Geometry {
         self.upper_blocks(0)
     }
 
-    // The place of data block `block` at a level: the tree block's number on the tree device, and the cell in it.
-    pub fn place(&self, level: usize, block: usize) -> Option<(usize, usize)>
-        ensures { MatchOption result ((level < levels self.now.blocks) × (block < self.now.blocks) → ⊥) (λ p. (level < levels self.now.blocks) × (block < self.now.blocks) × (p ≡ place self.now.blocks level block)) }
+    // The place of data block `block` at a level.
+    pub fn place(&self, level: usize, block: usize) -> Option<Place>
+        ensures { MatchOption result ((level < levels self.now.blocks) × (block < self.now.blocks) → ⊥) (λ p. (level < levels self.now.blocks) × (block < self.now.blocks) × (p.block ≡ (place self.now.blocks level block).0) × (p.cell ≡ (place self.now.blocks level block).1)) }
     {
         if level < self.levels() && block < self.blocks {
             let start = self.upper_blocks(level + 1);
             // The cell counts within the level; each level below it took four bits of the block number.
             let cell = block >> (4 * level);
-            Some((start + cell / 16, cell % 16))
+            Some(Place {
+                block: start + cell / 16,
+                cell: cell % 16,
+            })
         } else {
             None
         }

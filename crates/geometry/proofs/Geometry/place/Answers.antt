@@ -1,4 +1,4 @@
-use Rattle.std.proofs.Common.{◌+◌, ◌*◌, ◌<◌, arith}
+use Rattle.std.proofs.Common.{◌+◌, ◌*◌, ◌<◌, ap, arith}
 use Rattle.std.proofs.lemmas.Nat.{shr_le}
 use Rattle.geometry.proofs.Numbers.{level_few, above_most, place_shifted}
 use Rattle.geometry.proofs.Geometry.place.Goals as goal
@@ -18,8 +18,6 @@ overflow_add-result c =
     record { fits = omega (arith, above_most g.blocks (c.args.level + 1) g.least g.most, shr_le c.args.block (4 * c.args.level)) }
 
 pub returns-then-block-self : goal.returns-then-block-self
-returns-then-block-self c = (
-  omega arith,
-  omega arith,
-  place_shifted c.args.self.now.blocks c.args.level c.args.block c.upper_blocks-start.result c.upper_blocks-start.ensures,
-)
+returns-then-block-self c =
+    let is = place_shifted c.args.self.now.blocks c.args.level c.args.block c.upper_blocks-start.result c.upper_blocks-start.ensures in
+    (omega arith, omega arith, ap (λ p. p.0) is, ap (λ p. p.1) is)
