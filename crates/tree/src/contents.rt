@@ -2,7 +2,7 @@
 ghost use Rattle.std.specs.Prelude.{◌≡◌, ◌<◌, ◌≤◌, replicate, IfOk, vec_len, MatchResult, slice_set};
 ghost use Rattle.tree.specs.Layout.{zero_block};
 
-use crate::geometry::Geometry;
+use geometry::Geometry;
 use std::alloc::{AllocError, Global};
 
 #[derive(Drop)]
@@ -49,11 +49,7 @@ impl Contents {
 }
 
 pub(crate) fn zero_blocks(heap: Global, count: usize) -> Result<Vec<[u8; 512]>, AllocError>
-    ensures { IfOk result (λ v. (v.items ≡ replicate count zero_block) × (vec_len v ≡ count)) }
+    ensures { IfOk result (λ v. v.items ≡ replicate count zero_block) }
 {
-    let mut blocks = Vec::with_capacity(heap, count)?;
-    while blocks.len() < count {
-        blocks.push([0u8; 512])?;
-    }
-    Ok(blocks)
+    vec![in heap; [0u8; 512]; count]
 }
