@@ -1,6 +1,7 @@
 -- Laws of the tree's numbers, for 1 to 4096 data blocks. Assumes nothing.
 use Rattle.std.proofs.Common.{◌≡◌, ℕ, zero, suc, ◌+◌, ◌-◌, ◌*◌, ◌/◌, ◌%◌, ◌^◌, ◌<◌, ◌≤◌, max, sym, refl, ap, ◌∙◌, subst, ⊎_elim, le_trans, pow-suc, le-div_iff_mul-le, div-mul-le_self, add-one, arith, pow_pos, pow_mono, pow-add}
 use native.Mathlib.Nat.{div-div-eq-div-mul}
+use Rattle.std.specs.Int.{div_ceil}
 use lib.Count.{count_leading_zeros, leading_length}
 use Rattle.std.proofs.lemmas.Bool.{cases_lt, le-leb, lt-leb, cond-true, cond-false}
 use Rattle.geometry.specs.Geometry.{up, width, packings, levels, lower, total, above, start, place}
@@ -80,13 +81,13 @@ digits_least : (a m j : ℕ) → 2 ^ j ≤ a → a < 2 ^ m → j < m
 digits_least a m j l h = ⊎_elim (λ s. s) (λ b. let p : 2 ^ m ≤ 2 ^ j = pow_mono b in absurd (omega (arith, p))) (cases_lt j m)
 
 -- the number of levels from the bit length of n - 1
-pub levels_from_bits : (n : ℕ) → 1 ≤ n → n ≤ 4096 → levels n ≡ max ((64 - count_leading_zeros 64 (n - 1) + 3) / 4) 1
+pub levels_from_bits : (n : ℕ) → 1 ≤ n → n ≤ 4096 → levels n ≡ max (div_ceil (64 - count_leading_zeros 64 (n - 1)) 4) 1
 levels_from_bits n l h =
     let bits = leading_length 64 (n - 1) (omega arith) in
     let m : ℕ = bits.0 in
     let is : 64 - count_leading_zeros 64 (n - 1) ≡ m = omega (arith, bits.1) in
-    subst (λ b. levels n ≡ max ((b + 3) / 4) 1) (sym is)
-    (by_size (λ k. k ≡ max ((m + 3) / 4) 1) n l h
+    subst (λ b. levels n ≡ max (div_ceil b 4) 1) (sym is)
+    (by_size (λ k. k ≡ max (div_ceil m 4) 1) n l h
     (λ s. omega (arith, digits_most (n - 1) m 4 (omega arith) bits.3))
     (λ b s. omega (arith, digits_most (n - 1) m 8 (omega arith) bits.3, digits_least (n - 1) m 4 (omega arith) bits.2))
     (λ b. omega (arith, digits_most (n - 1) m 12 (omega arith) bits.3, digits_least (n - 1) m 8 (omega arith) bits.2)))
@@ -148,9 +149,6 @@ above_most n l least most = omega (arith, total_most n least most)
 pub start_split : (n l : ℕ) → l < levels n → start n l + lower n (suc l) ≡ total n
 start_split n l h = omega (arith, above_split n (suc l) h, ap (above n) (add-one l))
 
-pub start_next : (n l : ℕ) → suc l < levels n → start n (suc l) + width n (suc l) ≡ start n l
-start_next n l h = omega (arith, start_split n l (omega arith), start_split n (suc l) h)
-
 pub start_top : (n l : ℕ) → suc l ≡ levels n → start n l ≡ 0
 unfolding total
 start_top n l e = omega (arith, ap (lower n) (add-one l ∙ e))
@@ -161,13 +159,14 @@ total_split n least most = omega (arith, start_split n 0 (levels_least n least m
 pub total_least : (n : ℕ) → 1 ≤ n → n ≤ 4096 → 1 ≤ total n
 total_least n least most = omega (arith, total_split n least most)
 
--- a block of the level below stands at a place of level l
-pub place_shifted : (n l k s : ℕ) → s ≡ start n l → (s + k / 2 ^ (4 * l) / 16, k / 2 ^ (4 * l) % 16) ≡ place n l k
+-- each level takes four bits of the block number
+pub place_block : (n l k : ℕ) → (place n l k).0 ≡ start n l + k / 2 ^ (4 * l) / 16
 unfolding place
-place_shifted n l k s at =
-    let e = sixteens l in
-    let far : k / 2 ^ (4 * l) / 16 ≡ k / 16 ^ suc l = ap (λ p. k / p / 16) e ∙ div-div-eq-div-mul k (16 ^ l) 16 ∙ ap (λ p. k / p) (sym (pow-suc 16 l)) in
-    (λ i. (at i + far i, k / e i % 16))
+place_block n l k = ap (λ b. start n l + b) (ap (λ p. k / p) (pow-suc 16 l) ∙ sym (div-div-eq-div-mul k (16 ^ l) 16) ∙ ap (λ p. k / p / 16) (sym (sixteens l)))
+
+pub place_cell : (n l k : ℕ) → (place n l k).1 ≡ k / 2 ^ (4 * l) % 16
+unfolding place
+place_cell n l k = ap (λ p. k / p % 16) (sym (sixteens l))
 
 -- the block of level l that has a data block's place is one of the level's
 div_mono : (m n l : ℕ) → m ≤ n → m / 16 ^ l ≤ n / 16 ^ l

@@ -35,11 +35,12 @@ impl Geometry {
     }
 
     // The number of levels: four bits of the highest block number to a level, and one level at least.
+    #[tactic(auto, using(crate::proofs::Numbers::levels_from_bits))]
     pub fn levels(&self) -> usize
         ensures { result ≡ levels self.now.blocks }
     {
         let bits = (64 - (self.blocks - 1).leading_zeros()) as usize;
-        ((bits + 3) / 4).max(1)
+        bits.div_ceil(4).max(1)
     }
 
     // How many blocks a level has.
@@ -72,6 +73,7 @@ impl Geometry {
     }
 
     // The place of data block `block` at a level.
+    #[tactic(auto, using(crate::proofs::Numbers::levels_most, crate::proofs::Numbers::above_most, crate::proofs::Numbers::place_block, crate::proofs::Numbers::place_cell, std::proofs::lemmas::Nat::shr_le))]
     pub fn place(&self, level: usize, block: usize) -> Option<Place>
         ensures { MatchOption result ((level < levels self.now.blocks) × (block < self.now.blocks) → ⊥) (λ p. (level < levels self.now.blocks) × (block < self.now.blocks) × (p.block ≡ (place self.now.blocks level block).0) × (p.cell ≡ (place self.now.blocks level block).1)) }
     {
@@ -88,6 +90,7 @@ impl Geometry {
         }
     }
 
+    #[tactic(auto, using(crate::proofs::Numbers::levels_most, crate::proofs::Numbers::width_shifted))]
     fn width_of(&self, level: usize) -> usize
         requires { level < levels self.now.blocks }
         ensures { result ≡ width self.now.blocks level }
