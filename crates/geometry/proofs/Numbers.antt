@@ -1,7 +1,9 @@
 -- Laws of the tree's numbers, for 1 to 4096 data blocks. Assumes nothing.
-use Rattle.std.proofs.Common.{◌≡◌, ℕ, zero, suc, ◌+◌, ◌-◌, ◌*◌, ◌/◌, ◌%◌, ◌^◌, ◌<◌, ◌≤◌, max, sym, refl, ap, ◌∙◌, subst, ⊎_elim, le_trans, pow-suc, le-div_iff_mul-le, div-mul-le_self, add-one, arith, pow_pos, pow_mono, pow-add}
+use Rattle.std.proofs.Common.{◌≡◌, ℕ, zero, suc, ◌+◌, ◌-◌, ◌*◌, ◌/◌, ◌%◌, ◌^◌, ◌<◌, ◌≤◌, max, sum_by, sym, refl, ap, ◌∙◌, subst, ⊎_elim, le_trans, pow-suc, le-div_iff_mul-le, div-mul-le_self, add-one, add-zero, arith, pow_pos, pow_mono, pow-add}
 use native.Mathlib.Nat.{div-div-eq-div-mul}
 use Rattle.std.specs.Int.{div_ceil}
+use Rattle.std.specs.List.{range_with_len}
+use Rattle.std.proofs.lemmas.List.Sums.{sum_by-cons}
 use lib.Count.{count_leading_zeros, leading_length}
 use Rattle.std.proofs.lemmas.Bool.{cases_lt, le-leb, lt-leb, cond-true, cond-false}
 use Rattle.geometry.specs.Geometry.{up, width, packings, levels, lower, total, above, start, place}
@@ -144,6 +146,19 @@ above_split n l h = omega (arith, lower_mono n l (levels n) h)
 
 pub above_most : (n l : ℕ) → 1 ≤ n → n ≤ 4096 → above n l ≤ 768
 above_most n l least most = omega (arith, total_most n least most)
+
+-- the widths of m levels from level l on
+sum_widths : (n l m : ℕ) → sum_by (width n) (range_with_len l m) + lower n l ≡ lower n (l + m)
+sum_widths n l zero = omega (arith, ap (lower n) (add-zero l))
+sum_widths n l (suc m) =
+    let e : l + 1 + m ≡ l + suc m = omega arith in
+    omega (arith, sum_by-cons (width n) l (range_with_len (l + 1) m), sum_widths n (l + 1) m, ap (lower n) e, ap (lower n) (add-one l))
+
+pub above_is : (n l top : ℕ) → top ≡ levels n → l ≤ top → sum_by (width n) (range_with_len l (top - l)) ≡ above n l
+unfolding total
+above_is n l top is h =
+    let e : l + (top - l) ≡ levels n = omega arith in
+    omega (arith, sum_widths n l (top - l), ap (lower n) e)
 
 -- a level lies after all levels above it and before those below it
 pub start_split : (n l : ℕ) → l < levels n → start n l + lower n (suc l) ≡ total n

@@ -103,10 +103,6 @@ impl Geometry {
         requires { level ≤ levels self.now.blocks }
         ensures { result ≡ above self.now.blocks level }
     {
-        let mut sum = 0;
-        for higher in level..self.levels() {
-            sum += self.width_of(higher);
-        }
-        sum
+        (level..self.levels()).map(|l| self.width_of(l)).sum()
     }
 }
