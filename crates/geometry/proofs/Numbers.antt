@@ -71,9 +71,6 @@ pub total_one : (n : ℕ) → 1 ≤ n → n ≤ 16 → total n ≡ 1
 unfolding total
 total_one n l h = ap (lower n) (levels_one n l h) ∙ omega arith
 
-pub level_few : (n l : ℕ) → 1 ≤ n → n ≤ 4096 → l < levels n → l < 3
-level_few n l least most h = omega (arith, levels_most n least most)
-
 -- a number of m digits below 2 ^ j has at most j, and one that is not has more
 digits_most : (a m j : ℕ) → a < 2 ^ j → 2 ^ m ≤ 2 * a + 1 → m ≤ j
 digits_most a m j h l =

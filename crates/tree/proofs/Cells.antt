@@ -3,44 +3,40 @@ use Rattle.std.proofs.Common.{◌≡◌, ℕ, zero, suc, ◌+◌, ◌-◌, ◌*�
 use lib.Seq.{take-set-lt, take-set-le, drop-set-add, take-append-le, drop-append-le, take-append-add, drop-append-add}
 use Rattle.std.proofs.lemmas.List.FromFn.{length-map-range_with_len, get_or-map-range_with_len}
 use Rattle.std.proofs.lemmas.List.Concat.{flat_map-append}
+use Rattle.std.proofs.lemmas.List.Elements.{All-take, All-drop}
 use Rattle.std.proofs.lemmas.List.{same_lists, get_or-set_same, get_or-set_other, take_all, take_at, nil_from_length, replicate-append-replicate}
 use Rattle.std.proofs.lemmas.Bool.{cases_lt, cases_order}
-use Rattle.std.specs.List.{flat_map}
+use Rattle.std.specs.List.{All, flat_map}
 use Rattle.geometry.specs.Geometry.{up}
 use Rattle.tree.specs.Layout.{side_by_side, pack, put_cell}
 
 -- each has the length of a cell
 abbrev pub Wide : List (List ℕ) → Type 0
-Wide [] = Unit {0}
-Wide (c ∷ cs) = (length c ≡ 32) × Wide cs
+Wide cs = All (λ c. length c ≡ 32) cs
 
-pub wide_take : (n : ℕ) (cs : List (List ℕ)) → Wide cs → Wide (take n cs)
-wide_take zero cs w = tt
-wide_take (suc n) [] w = tt
-wide_take (suc n) (c ∷ cs) w = (w.0, wide_take n cs w.1)
+pub wide_first : (c : List ℕ) (cs : List (List ℕ)) → Wide (c ∷ cs) → length c ≡ 32
+wide_first c cs w = w 0 [] (omega arith)
 
-pub wide_drop : (n : ℕ) (cs : List (List ℕ)) → Wide cs → Wide (drop n cs)
-wide_drop zero cs w = w
-wide_drop (suc n) [] w = tt
-wide_drop (suc n) (c ∷ cs) w = wide_drop n cs w.1
+pub wide_rest : (c : List ℕ) (cs : List (List ℕ)) → Wide (c ∷ cs) → Wide cs
+wide_rest c cs w k d h = w (suc k) d (omega arith)
 
 abbrev pub flat : List (List ℕ) → List ℕ
 flat cs = flat_map (λ c. c) cs
 
 pub length-flat : (cs : List (List ℕ)) → Wide cs → length (flat cs) ≡ 32 * length cs
 length-flat [] w = refl
-length-flat (c ∷ cs) w = omega (arith, length-append c (flat cs), w.0, length-flat cs w.1)
+length-flat (c ∷ cs) w = omega (arith, length-append c (flat cs), wide_first c cs w, length-flat cs (wide_rest c cs w))
 
 -- one cell of many replaced
 flat_set : (cs : List (List ℕ)) (i : ℕ) (d : List ℕ) → Wide cs → i < length cs → flat (set cs i d) ≡ take (32 * i) (flat cs) ++ (d ++ drop (32 * i + 32) (flat cs))
 flat_set [] i d w h = absurd (omega arith)
-flat_set (c ∷ cs) zero d w h = ap (λ l. d ++ l) (sym (drop_at c (flat cs) 32 w.0))
+flat_set (c ∷ cs) zero d w h = ap (λ l. d ++ l) (sym (drop_at c (flat cs) 32 (wide_first c cs w)))
 flat_set (c ∷ cs) (suc i) d w h =
-    let here : 32 * suc i ≡ length c + 32 * i = omega (arith, w.0) in
-    let past : 32 * suc i + 32 ≡ length c + (32 * i + 32) = omega (arith, w.0) in
+    let here : 32 * suc i ≡ length c + 32 * i = omega (arith, wide_first c cs w) in
+    let past : 32 * suc i + 32 ≡ length c + (32 * i + 32) = omega (arith, wide_first c cs w) in
     let front : take (32 * suc i) (c ++ flat cs) ≡ c ++ take (32 * i) (flat cs) = ap (λ n. take n (c ++ flat cs)) here ∙ take-append-add c (flat cs) (32 * i) in
     let back : drop (32 * suc i + 32) (c ++ flat cs) ≡ drop (32 * i + 32) (flat cs) = ap (λ n. drop n (c ++ flat cs)) past ∙ drop-append-add c (flat cs) (32 * i + 32) in
-    ap (λ l. c ++ l) (flat_set cs i d w.1 (le_of_suc-le-suc h)) ∙ sym (append_assoc c (take (32 * i) (flat cs)) (d ++ drop (32 * i + 32) (flat cs)))
+    ap (λ l. c ++ l) (flat_set cs i d (wide_rest c cs w) (le_of_suc-le-suc h)) ∙ sym (append_assoc c (take (32 * i) (flat cs)) (d ++ drop (32 * i + 32) (flat cs)))
     ∙ (λ k. sym front k ++ (d ++ sym back k))
 
 -- a cell replaced in a block
@@ -63,6 +59,9 @@ length-pack cs = length-map-range_with_len _ 0 (up (length cs))
 -- the cells of block j
 abbrev pub sixteen : List (List ℕ) → ℕ → List (List ℕ)
 sixteen cs j = take 16 (drop (16 * j) cs)
+
+pub wide_sixteen : (cs : List (List ℕ)) (j : ℕ) → Wide cs → Wide (sixteen cs j)
+wide_sixteen cs j w = All-take (λ c. length c ≡ 32) 16 (drop (16 * j) cs) (All-drop (λ c. length c ≡ 32) (16 * j) cs w)
 
 pub get_or-pack : (cs : List (List ℕ)) (j : ℕ) (e : List ℕ) → j < up (length cs) → get_or (pack cs) j e ≡ side_by_side (sixteen cs j)
 unfolding pack
@@ -100,7 +99,7 @@ pack_set cs n d e w long h =
     let at : sixteen (set cs n d) j ≡ set (sixteen cs (n / 16)) (n % 16) d = ap (sixteen (set cs n d)) same ∙ sixteen_same cs n d in
     let few : length (sixteen cs (n / 16)) ≤ 16 = omega (arith, length-take 16 (drop (16 * (n / 16)) cs)) in
     let in_it : n % 16 < length (sixteen cs (n / 16)) = omega (arith, length-take 16 (drop (16 * (n / 16)) cs), length-drop (16 * (n / 16)) cs) in
-    left ∙ ap side_by_side at ∙ side_set (sixteen cs (n / 16)) (n % 16) d (wide_take 16 (drop (16 * (n / 16)) cs) (wide_drop (16 * (n / 16)) cs w)) long few in_it
+    left ∙ ap side_by_side at ∙ side_set (sixteen cs (n / 16)) (n % 16) d (wide_sixteen cs (n / 16) w) long few in_it
     ∙ ap (λ b. put_cell b (n % 16) d) (sym (get_or-pack cs (n / 16) e q))
     ∙ sym (ap (λ k. get_or (set (pack cs) (n / 16) new) k x) same ∙ get_or-set_same (pack cs) (n / 16) new x (omega (arith, length-pack cs))))
     (λ other.

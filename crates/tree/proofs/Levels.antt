@@ -1,6 +1,7 @@
 -- A block filled image by image, and a level block by block. Assumes nothing.
 use Rattle.std.proofs.Common.{◌≡◌, ℕ, suc, ◌+◌, ◌-◌, ◌<◌, ◌≤◌, min, List, [], ◌∷◌, ◌++◌, map, length, get_or, take, set, replicate, sym, ap, ◌∙◌, append_assoc, append-nil, arith, length-append, length-set}
 use lib.ListN.{length-map}
+use Rattle.std.proofs.lemmas.List.Elements.{All-map}
 use Rattle.std.proofs.lemmas.List.{length-take-le, map-append, map_more, nil_from_length, set_at, take_all, take_more_set}
 use Rattle.geometry.specs.Geometry.{up}
 use Rattle.tree.specs.Layout.{side_by_side, pack}
@@ -8,8 +9,7 @@ use Rattle.tree.proofs.Cells.{Wide, flat, flat_padded, length-pack, pack_next}
 
 module _ (image : List ℕ → List ℕ) where
   pub wide_images : ((block : List ℕ) → length (image block) ≡ 32) → (blocks : List (List ℕ)) → Wide (map image blocks)
-  wide_images wide [] = tt
-  wide_images wide (b ∷ blocks) = (wide b, wide_images wide blocks)
+  wide_images wide blocks = All-map (λ c. length c ≡ 32) image blocks (λ k d h. wide (get_or blocks k d))
 
   -- the images of the first i blocks, and cells of zeros in place of the others
   abbrev pub first : List (List ℕ) → ℕ → List (List ℕ)

@@ -8,17 +8,17 @@ use Rattle.std.proofs.lemmas.Bool.{cases_lt}
 use Rattle.geometry.specs.Geometry.{width, levels, lower, total, above, start, place}
 use Rattle.tree.specs.Layout.{side_by_side, pack, level, stacked, tree_of, root_of}
 use Rattle.tree.specs.Paths.{cell_at, cell_of, LeadUp}
-use Rattle.tree.proofs.Cells.{Wide, flat, sixteen, wide_take, wide_drop, length-flat, get_or-pack}
+use Rattle.tree.proofs.Cells.{Wide, flat, sixteen, wide_first, wide_rest, wide_sixteen, length-flat, get_or-pack}
 use Rattle.tree.proofs.Levels.{wide_images}
 use Rattle.geometry.proofs.Numbers.{lower_mono, levels_least, place_inside, place_top}
 use Rattle.tree.proofs.Whole.{length-level}
 
 flat_cell : (cs : List (List ℕ)) (r : ℕ) → Wide cs → r < length cs → take 32 (drop (32 * r) (flat cs)) ≡ get_or cs r []
 flat_cell [] r w h = absurd (omega arith)
-flat_cell (c ∷ cs) zero w h = take_at c (flat cs) 32 w.0
+flat_cell (c ∷ cs) zero w h = take_at c (flat cs) 32 (wide_first c cs w)
 flat_cell (c ∷ cs) (suc r) w h =
-    let past : 32 * suc r ≡ length c + 32 * r = omega (arith, w.0) in
-    ap (λ n. take 32 (drop n (c ++ flat cs))) past ∙ ap (take 32) (drop-append-add c (flat cs) (32 * r)) ∙ flat_cell cs r w.1 (le_of_suc-le-suc h)
+    let past : 32 * suc r ≡ length c + 32 * r = omega (arith, wide_first c cs w) in
+    ap (λ n. take 32 (drop n (c ++ flat cs))) past ∙ ap (take 32) (drop-append-add c (flat cs) (32 * r)) ∙ flat_cell cs r (wide_rest c cs w) (le_of_suc-le-suc h)
 
 side_cell : (cs : List (List ℕ)) (r : ℕ) → Wide cs → r < length cs → cell_at (side_by_side cs) r ≡ get_or cs r []
 unfolding cell_at side_by_side
@@ -34,7 +34,7 @@ pack_cell cs i w h =
     let r = i % 16 in
     let at : 16 * q + r ≡ i = omega arith in
     let inside : r < length (sixteen cs q) = omega (arith, length-take 16 (drop (16 * q) cs), length-drop (16 * q) cs) in
-    ap (λ b. cell_at b r) (get_or-pack cs q [] (omega arith)) ∙ side_cell (sixteen cs q) r (wide_take 16 (drop (16 * q) cs) (wide_drop (16 * q) cs w)) inside
+    ap (λ b. cell_at b r) (get_or-pack cs q [] (omega arith)) ∙ side_cell (sixteen cs q) r (wide_sixteen cs q w) inside
     ∙ get_or-take 16 (drop (16 * q) cs) r [] (omega arith) ∙ get_or-drop (16 * q) cs r [] ∙ ap (λ n. get_or cs n []) at
 
 module _ (image : List ℕ → List ℕ) (wide : (block : List ℕ) → length (image block) ≡ 32) where

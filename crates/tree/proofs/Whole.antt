@@ -16,7 +16,6 @@ module _ (image : List ℕ → List ℕ) (bs : List (List ℕ)) where
   length-stacked zero = refl
   length-stacked (suc l) = omega (arith, length-append (level image l bs) (stacked image l bs), length-level l, length-stacked l)
 
-module _ (image : List ℕ → List ℕ) (bs : List (List ℕ)) where
   abbrev lowest : List (List ℕ)
   lowest = pack (map image bs)
 
@@ -32,7 +31,7 @@ module _ (image : List ℕ → List ℕ) (bs : List (List ℕ)) where
   pub tree_more : 16 < length bs → length bs ≤ 4096 → tree_of image bs ≡ tree_of image lowest ++ lowest
   unfolding tree_of
   tree_more l h =
-      ap (λ k. stacked image k bs) (levels_more (length bs) l h) ∙ stacked_more (levels (up (length bs))) ∙ ap (λ k. stacked image (levels k) lowest ++ lowest) (sym (length-level image bs 0))
+      ap (λ k. stacked image k bs) (levels_more (length bs) l h) ∙ stacked_more (levels (up (length bs))) ∙ ap (λ k. stacked image (levels k) lowest ++ lowest) (sym (length-level 0))
 
   pub tree_one : 1 ≤ length bs → length bs ≤ 16 → tree_of image bs ≡ lowest
   unfolding tree_of

@@ -31,10 +31,8 @@ impl Contents {
     pub fn put(&mut self, at: usize, block: &[u8; 512]) -> Result<(), PastEnd>
         ensures { MatchResult result (λ _. (at < vec_len self.old.blocks) × (self.new.blocks.items ≡ slice_set self.old.blocks.items at block.now)) (λ e. (vec_len self.old.blocks ≤ at) × (e.at ≡ at) × (self.new ≡ self.old)) }
     {
-        if at >= self.blocks.len() {
-            return Err(PastEnd { at });
-        }
-        self.blocks[at] = *block;
+        let slot = self.blocks.get_mut(at).ok_or(PastEnd { at })?;
+        *slot = *block;
         Ok(())
     }
 

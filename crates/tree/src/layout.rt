@@ -9,6 +9,7 @@ use digest::hash::Hash;
 use std::alloc::{AllocError, Global};
 
 // Makes a block of the images of up to sixteen blocks.
+#[tactic(auto, using(crate::proofs::Levels::first_more, crate::proofs::Levels::first_all))]
 fn fill_block<H: Hash>(hash: &H, below: &[[u8; 512]], block: &mut [u8; 512])
     requires { length below.now ≤ 16 }
     ensures { block.new ≡ side_by_side (map (H.Hash.image hash.now) below.now) }
@@ -21,6 +22,7 @@ fn fill_block<H: Hash>(hash: &H, below: &[[u8; 512]], block: &mut [u8; 512])
 }
 
 // Makes a level of the images of the blocks below it.
+#[tactic(auto, using(crate::proofs::Levels::made_all))]
 fn fill_level<H: Hash>(hash: &H, below: &[[u8; 512]], level: &mut [[u8; 512]])
     requires { length level.old ≡ up (length below.now) }
     ensures { level.new ≡ pack (map (H.Hash.image hash.now) below.now) }
@@ -31,6 +33,7 @@ fn fill_level<H: Hash>(hash: &H, below: &[[u8; 512]], level: &mut [[u8; 512]])
 }
 
 // Makes the tree over some blocks: the lowest level at its end, and before it the tree over that level.
+#[tactic(auto, using(geometry::proofs::Numbers::total_split, geometry::proofs::Numbers::total_more, geometry::proofs::Numbers::total_one, crate::proofs::Whole::tree_more, crate::proofs::Whole::tree_one))]
 fn fill<H: Hash>(hash: &H, below: &[[u8; 512]], tree: &mut [[u8; 512]])
     requires few { (1 ≤ length below.now) × (length below.now ≤ 4096) }
     requires room { length tree.old ≡ total (length below.now) }
@@ -54,12 +57,13 @@ pub struct Tree {
 impl Tree {
     // The tree over the contents, in which the places of each data block lead up to the root. It takes one image of each data block
     // and of each tree block.
+    #[tactic(auto, using(geometry::proofs::Numbers::total_least))]
     pub fn over<H: Hash>(heap: Global, hash: &H, contents: &Contents) -> Result<Tree, AllocError>
         ensures layout { IfOk result (λ t. (t.blocks.items ≡ tree_of (H.Hash.image hash.now) contents.now.blocks.items) × (t.root ≡ root_of (H.Hash.image hash.now) contents.now.blocks.items)) }
         ensures leads { IfOk result (λ t. LeadUp (H.Hash.image hash.now) contents.now.blocks.items t.blocks.items t.root) }
     {
         let mut blocks = zero_blocks(heap, contents.geometry().total())?;
-        fill(hash, contents.blocks.as_slice(), blocks.as_mut_slice());
+        fill(hash, &contents.blocks, &mut blocks);
         let root = hash.image_of(&blocks[0]);
         Ok(Tree { blocks, root })
     }
