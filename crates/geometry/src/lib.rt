@@ -39,7 +39,7 @@ impl Geometry {
     pub fn levels(&self) -> usize
         ensures { result ≡ levels self.now.blocks }
     {
-        let bits = (64 - (self.blocks - 1).leading_zeros()) as usize;
+        let bits = (usize::BITS - (self.blocks - 1).leading_zeros()) as usize;
         bits.div_ceil(4).max(1)
     }
 
