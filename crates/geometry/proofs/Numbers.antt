@@ -1,6 +1,9 @@
 -- Laws of the tree's numbers, for 1 to 4096 data blocks. Assumes nothing.
-use Rattle.std.proofs.Common.{◌≡◌, ℕ, zero, suc, ◌+◌, ◌-◌, ◌*◌, ◌/◌, ◌%◌, ◌^◌, ◌<◌, ◌≤◌, max, sym, refl, ap, ◌∙◌, subst, ⊎_elim, le_trans, pow-suc, le-div_iff_mul-le, div-mul-le_self, add-one, arith, pow_pos, pow_mono, pow-add}
+use Rattle.std.proofs.Common.{◌≡◌, ℕ, zero, suc, ◌+◌, ◌-◌, ◌*◌, ◌/◌, ◌%◌, ◌^◌, ◌<◌, ◌≤◌, max, sum_by, sym, refl, ap, ◌∙◌, subst, ⊎_elim, le_trans, pow-suc, le-div_iff_mul-le, div-mul-le_self, add-one, add-zero, arith, pow_pos, pow_mono, pow-add}
 use native.Mathlib.Nat.{div-div-eq-div-mul}
+use Rattle.std.specs.Int.{div_ceil}
+use Rattle.std.specs.List.{range_with_len}
+use Rattle.std.proofs.lemmas.List.Sums.{sum_by-cons}
 use lib.Count.{count_leading_zeros, leading_length}
 use Rattle.std.proofs.lemmas.Bool.{cases_lt, le-leb, lt-leb, cond-true, cond-false}
 use Rattle.geometry.specs.Geometry.{up, width, packings, levels, lower, total, above, start, place}
@@ -46,8 +49,27 @@ levels_least n l h = by_size (λ k. 1 ≤ k) n l h (λ _. omega arith) (λ _ _. 
 pub levels_most : (n : ℕ) → 1 ≤ n → n ≤ 4096 → levels n ≤ 3
 levels_most n l h = by_size (λ k. k ≤ 3) n l h (λ _. omega arith) (λ _ _. omega arith) (λ _. omega arith)
 
-pub level_few : (n l : ℕ) → 1 ≤ n → n ≤ 4096 → l < levels n → l < 3
-level_few n l least most h = omega (arith, levels_most n least most)
+-- over more than sixteen blocks stands level 0, and then the tree over that level
+pub levels_more : (n : ℕ) → 16 < n → n ≤ 4096 → levels n ≡ suc (levels (up n))
+levels_more n l h =
+    ⊎_elim (λ s. levels_two n l (omega arith) ∙ ap suc (sym (levels_one (up n) (omega arith) (omega arith))))
+    (λ b. levels_three n (omega arith) h ∙ ap suc (sym (levels_two (up n) (omega arith) (omega arith)))) (cases_lt n 257)
+
+width_more : (n l : ℕ) → width n (suc l) ≡ width (up n) l
+width_more n zero = refl
+width_more n (suc l) = ap up (width_more n l)
+
+lower_more : (n l : ℕ) → lower n (suc l) ≡ lower (up n) l + up n
+lower_more n zero = omega arith
+lower_more n (suc l) = omega (arith, width_more n l, lower_more n l)
+
+pub total_more : (n : ℕ) → 16 < n → n ≤ 4096 → total n ≡ total (up n) + up n
+unfolding total
+total_more n l h = ap (lower n) (levels_more n l h) ∙ lower_more n (levels (up n))
+
+pub total_one : (n : ℕ) → 1 ≤ n → n ≤ 16 → total n ≡ 1
+unfolding total
+total_one n l h = ap (lower n) (levels_one n l h) ∙ omega arith
 
 -- a number of m digits below 2 ^ j has at most j, and one that is not has more
 digits_most : (a m j : ℕ) → a < 2 ^ j → 2 ^ m ≤ 2 * a + 1 → m ≤ j
@@ -58,13 +80,13 @@ digits_least : (a m j : ℕ) → 2 ^ j ≤ a → a < 2 ^ m → j < m
 digits_least a m j l h = ⊎_elim (λ s. s) (λ b. let p : 2 ^ m ≤ 2 ^ j = pow_mono b in absurd (omega (arith, p))) (cases_lt j m)
 
 -- the number of levels from the bit length of n - 1
-pub levels_from_bits : (n : ℕ) → 1 ≤ n → n ≤ 4096 → levels n ≡ max ((64 - count_leading_zeros 64 (n - 1) + 3) / 4) 1
+pub levels_from_bits : (n : ℕ) → 1 ≤ n → n ≤ 4096 → levels n ≡ max (div_ceil (64 - count_leading_zeros 64 (n - 1)) 4) 1
 levels_from_bits n l h =
     let bits = leading_length 64 (n - 1) (omega arith) in
     let m : ℕ = bits.0 in
     let is : 64 - count_leading_zeros 64 (n - 1) ≡ m = omega (arith, bits.1) in
-    subst (λ b. levels n ≡ max ((b + 3) / 4) 1) (sym is)
-    (by_size (λ k. k ≡ max ((m + 3) / 4) 1) n l h
+    subst (λ b. levels n ≡ max (div_ceil b 4) 1) (sym is)
+    (by_size (λ k. k ≡ max (div_ceil m 4) 1) n l h
     (λ s. omega (arith, digits_most (n - 1) m 4 (omega arith) bits.3))
     (λ b s. omega (arith, digits_most (n - 1) m 8 (omega arith) bits.3, digits_least (n - 1) m 4 (omega arith) bits.2))
     (λ b. omega (arith, digits_most (n - 1) m 12 (omega arith) bits.3, digits_least (n - 1) m 8 (omega arith) bits.2)))
@@ -122,12 +144,22 @@ above_split n l h = omega (arith, lower_mono n l (levels n) h)
 pub above_most : (n l : ℕ) → 1 ≤ n → n ≤ 4096 → above n l ≤ 768
 above_most n l least most = omega (arith, total_most n least most)
 
+-- the widths of m levels from level l on
+sum_widths : (n l m : ℕ) → sum_by (width n) (range_with_len l m) + lower n l ≡ lower n (l + m)
+sum_widths n l zero = omega (arith, ap (lower n) (add-zero l))
+sum_widths n l (suc m) =
+    let e : l + 1 + m ≡ l + suc m = omega arith in
+    omega (arith, sum_by-cons (width n) l (range_with_len (l + 1) m), sum_widths n (l + 1) m, ap (lower n) e, ap (lower n) (add-one l))
+
+pub above_is : (n l top : ℕ) → top ≡ levels n → l ≤ top → sum_by (width n) (range_with_len l (top - l)) ≡ above n l
+unfolding total
+above_is n l top is h =
+    let e : l + (top - l) ≡ levels n = omega arith in
+    omega (arith, sum_widths n l (top - l), ap (lower n) e)
+
 -- a level lies after all levels above it and before those below it
 pub start_split : (n l : ℕ) → l < levels n → start n l + lower n (suc l) ≡ total n
 start_split n l h = omega (arith, above_split n (suc l) h, ap (above n) (add-one l))
-
-pub start_next : (n l : ℕ) → suc l < levels n → start n (suc l) + width n (suc l) ≡ start n l
-start_next n l h = omega (arith, start_split n l (omega arith), start_split n (suc l) h)
 
 pub start_top : (n l : ℕ) → suc l ≡ levels n → start n l ≡ 0
 unfolding total
@@ -139,13 +171,14 @@ total_split n least most = omega (arith, start_split n 0 (levels_least n least m
 pub total_least : (n : ℕ) → 1 ≤ n → n ≤ 4096 → 1 ≤ total n
 total_least n least most = omega (arith, total_split n least most)
 
--- a block of the level below stands at a place of level l
-pub place_shifted : (n l k s : ℕ) → s ≡ start n l → (s + k / 2 ^ (4 * l) / 16, k / 2 ^ (4 * l) % 16) ≡ place n l k
+-- each level takes four bits of the block number
+pub place_block : (n l k : ℕ) → (place n l k).0 ≡ start n l + k / 2 ^ (4 * l) / 16
 unfolding place
-place_shifted n l k s at =
-    let e = sixteens l in
-    let far : k / 2 ^ (4 * l) / 16 ≡ k / 16 ^ suc l = ap (λ p. k / p / 16) e ∙ div-div-eq-div-mul k (16 ^ l) 16 ∙ ap (λ p. k / p) (sym (pow-suc 16 l)) in
-    (λ i. (at i + far i, k / e i % 16))
+place_block n l k = ap (λ b. start n l + b) (ap (λ p. k / p) (pow-suc 16 l) ∙ sym (div-div-eq-div-mul k (16 ^ l) 16) ∙ ap (λ p. k / p / 16) (sym (sixteens l)))
+
+pub place_cell : (n l k : ℕ) → (place n l k).1 ≡ k / 2 ^ (4 * l) % 16
+unfolding place
+place_cell n l k = ap (λ p. k / p % 16) (sym (sixteens l))
 
 -- the block of level l that has a data block's place is one of the level's
 div_mono : (m n l : ℕ) → m ≤ n → m / 16 ^ l ≤ n / 16 ^ l

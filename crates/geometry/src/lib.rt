@@ -16,6 +16,13 @@ pub struct Geometry {
     ghost most: { blocks ≤ 4096 },
 }
 
+// Where an image stands: the tree block's number on the tree device, and the cell in it.
+#[derive(Clone, Copy, Debug, PartialEq, Eq)]
+pub struct Place {
+    pub block: usize,
+    pub cell: usize,
+}
+
 impl Geometry {
     pub fn new(blocks: usize) -> Option<Geometry>
         ensures { MatchOption result ((1 ≤ blocks) × (blocks ≤ 4096) → ⊥) (λ g. g.blocks ≡ blocks) }
@@ -28,11 +35,12 @@ impl Geometry {
     }
 
     // The number of levels: four bits of the highest block number to a level, and one level at least.
+    #[tactic(auto, using(crate::proofs::Numbers::levels_from_bits))]
     pub fn levels(&self) -> usize
         ensures { result ≡ levels self.now.blocks }
     {
-        let bits = (64 - (self.blocks - 1).leading_zeros()) as usize;
-        ((bits + 3) / 4).max(1)
+        let bits = (usize::BITS - (self.blocks - 1).leading_zeros()) as usize;
+        bits.div_ceil(4).max(1)
     }
 
     // How many blocks a level has.
@@ -64,20 +72,25 @@ impl Geometry {
         self.upper_blocks(0)
     }
 
-    // The place of data block `block` at a level: the tree block's number on the tree device, and the cell in it.
-    pub fn place(&self, level: usize, block: usize) -> Option<(usize, usize)>
-        ensures { MatchOption result ((level < levels self.now.blocks) × (block < self.now.blocks) → ⊥) (λ p. (level < levels self.now.blocks) × (block < self.now.blocks) × (p ≡ place self.now.blocks level block)) }
+    // The place of data block `block` at a level.
+    #[tactic(auto, using(crate::proofs::Numbers::levels_most, crate::proofs::Numbers::above_most, crate::proofs::Numbers::place_block, crate::proofs::Numbers::place_cell, std::proofs::lemmas::Nat::shr_le))]
+    pub fn place(&self, level: usize, block: usize) -> Option<Place>
+        ensures { MatchOption result ((level < levels self.now.blocks) × (block < self.now.blocks) → ⊥) (λ p. (level < levels self.now.blocks) × (block < self.now.blocks) × (p.block ≡ (place self.now.blocks level block).0) × (p.cell ≡ (place self.now.blocks level block).1)) }
     {
         if level < self.levels() && block < self.blocks {
             let start = self.upper_blocks(level + 1);
             // The cell counts within the level; each level below it took four bits of the block number.
             let cell = block >> (4 * level);
-            Some((start + cell / 16, cell % 16))
+            Some(Place {
+                block: start + cell / 16,
+                cell: cell % 16,
+            })
         } else {
             None
         }
     }
 
+    #[tactic(auto, using(crate::proofs::Numbers::levels_most, crate::proofs::Numbers::width_shifted))]
     fn width_of(&self, level: usize) -> usize
         requires { level < levels self.now.blocks }
         ensures { result ≡ width self.now.blocks level }
@@ -90,10 +103,6 @@ impl Geometry {
         requires { level ≤ levels self.now.blocks }
         ensures { result ≡ above self.now.blocks level }
     {
-        let mut sum = 0;
-        for higher in level..self.levels() {
-            sum += self.width_of(higher);
-        }
-        sum
+        (level..self.levels()).map(|l| self.width_of(l)).sum()
     }
 }

@@ -1,7 +1,7 @@
 -- The report, put together. Assumes nothing.
 use Rattle.std.proofs.Common.{◌≡◌, ℕ, List, ◌++◌, length, ap, ◌∙◌, append_assoc}
 use Rattle.sim.specs.declared.Sim.{Sim}
-use Rattle.tree.specs.Geometry.{levels, total}
+use Rattle.geometry.specs.Geometry.{levels, total}
 use Rattle.label.specs.Report.{head_line, sim_lines, tree_line, label_line, report_with}
 
 in_a_row : (t a b c d : List ℕ) → (((t ++ a) ++ b) ++ c) ++ d ≡ t ++ (a ++ (b ++ (c ++ d)))

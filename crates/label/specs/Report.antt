@@ -2,7 +2,7 @@
 use Rattle.std.specs.Prelude.{ℕ, ◌+◌, ◌/◌, ◌%◌, cond, List, [], ◌∷◌, ◌++◌, length, codes, decimal, nat_lt}
 use Rattle.sim.specs.Identity.{unpadded}
 use Rattle.sim.specs.declared.Sim.{Sim}
-use Rattle.tree.specs.Geometry.{levels, total}
+use Rattle.geometry.specs.Geometry.{levels, total}
 
 abbrev pub head_line : ℕ → ℕ → ℕ → List ℕ
 head_line tray sims blocks = codes "tray " ++ (decimal tray ++ (codes ": SIMs " ++ (decimal sims ++ (codes ", blocks " ++ (decimal blocks ++ codes "\n")))))

@@ -2,10 +2,10 @@
 ghost use Rattle.std.specs.Prelude.{◌≡◌, ◌≤◌, length, IfOk};
 ghost use Rattle.label.specs.Label.{volume_of};
 
+use geometry::Geometry;
 use std::alloc::{AllocError, Global};
 use subscriber::{Sim, encode};
 use tree::contents::Contents;
-use tree::geometry::Geometry;
 
 // SIM k stands in block k, and zeros in every block after the last SIM.
 pub(crate) fn load(heap: Global, geometry: Geometry, sims: &[Sim]) -> Result<Contents, AllocError>

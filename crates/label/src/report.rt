@@ -7,10 +7,10 @@ ghost use Rattle.tree.specs.Layout.{root_of};
 use crate::lines::{write_head, write_label, write_sims, write_tree};
 use crate::load::load;
 use digest::hash::Hash;
+use geometry::Geometry;
 use std::alloc::{AllocError, Global};
 use subscriber::sheet::Sheet;
 use tree::contents::Contents;
-use tree::geometry::Geometry;
 use tree::layout::Tree;
 
 // The whole report. The SIMs are read again from the blocks that the tree lies over.

@@ -1,6 +1,6 @@
 // Worked out by hand from the rules in docs/TREE.md.
+use geometry::{Geometry, Place};
 use std::test::Fail;
-use tree::geometry::Geometry;
 
 #[test]
 fn sizes(rt: HostRuntime) -> Result<(), Fail> {
@@ -35,10 +35,16 @@ fn places(rt: HostRuntime) -> Result<(), Fail> {
     let Some(geometry) = Geometry::new(257) else {
         return Err(Fail::new("257 is refused"));
     };
-    assert_eq!(rt; geometry.place(0, 256), Some((19, 0)));
-    assert_eq!(rt; geometry.place(1, 256), Some((2, 0)));
-    assert_eq!(rt; geometry.place(2, 256), Some((0, 1)));
-    assert_eq!(rt; geometry.place(0, 255), Some((18, 15)));
+    assert_eq!(rt; geometry.place(0, 256), Some(Place { block: 19, cell: 0 }));
+    assert_eq!(rt; geometry.place(1, 256), Some(Place { block: 2, cell: 0 }));
+    assert_eq!(rt; geometry.place(2, 256), Some(Place { block: 0, cell: 1 }));
+    assert_eq!(rt;
+        geometry.place(0, 255),
+        Some(Place {
+            block: 18,
+            cell: 15
+        })
+    );
     assert_eq!(rt; geometry.place(3, 256), None);
     assert_eq!(rt; geometry.place(0, 257), None);
     Ok(())

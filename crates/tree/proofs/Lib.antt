@@ -1,4 +1,3 @@
-pub mod Numbers
 pub mod Cells
 pub mod Levels
 pub mod Whole

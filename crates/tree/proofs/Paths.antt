@@ -1,28 +1,24 @@
 -- The places of a data block lead up to the root. Assumes nothing.
-use Rattle.std.proofs.Common.{◌≡◌, ℕ, zero, suc, ◌+◌, ◌-◌, ◌*◌, ◌/◌, ◌%◌, ◌^◌, ◌<◌, ◌≤◌, List, [], ◌∷◌, ◌++◌, map, length, get_or, take, drop, replicate, sym, ap, ◌∙◌, subst, ⊎_elim, le_trans, le_of_suc-le-suc, pow-suc, le-div_iff_mul-le, div-mul-le_self, div-one, add-one, arith, length-drop, length-take, pow_pos}
+use Rattle.std.proofs.Common.{◌≡◌, ℕ, zero, suc, ◌+◌, ◌-◌, ◌*◌, ◌/◌, ◌%◌, ◌^◌, ◌<◌, ◌≤◌, List, [], ◌∷◌, ◌++◌, map, length, get_or, take, drop, replicate, sym, ap, ◌∙◌, subst, ⊎_elim, le_of_suc-le-suc, pow-suc, div-one, add-one, arith, length-drop, length-take}
 use native.Mathlib.Nat.{div-div-eq-div-mul}
 use lib.ListN.{length-map}
+use lib.Seq.{drop-append-add}
 use Rattle.std.proofs.lemmas.List.{get_or_append_left, get_or-append_right, get_or-take, get_or-drop, get_or-map, take-append-le, drop-append-le, take_at}
 use Rattle.std.proofs.lemmas.Bool.{cases_lt}
-use Rattle.tree.specs.Geometry.{width, levels, lower, total, above, start, place}
+use Rattle.geometry.specs.Geometry.{width, levels, lower, total, above, start, place}
 use Rattle.tree.specs.Layout.{side_by_side, pack, level, stacked, tree_of, root_of}
-use Rattle.tree.specs.Paths.{cell_at, cell_of, Leads, LeadUp}
-use Rattle.tree.proofs.Cells.{Wide, flat, sixteen, wide_take, wide_drop, length-flat, drop_past, get_or-pack}
+use Rattle.tree.specs.Paths.{cell_at, cell_of, LeadUp}
+use Rattle.tree.proofs.Cells.{Wide, flat, sixteen, wide_first, wide_rest, wide_sixteen, length-flat, get_or-pack}
 use Rattle.tree.proofs.Levels.{wide_images}
-use Rattle.tree.proofs.Numbers.{width_is, sixteens, lower_mono, start_top, top_width, levels_least}
+use Rattle.geometry.proofs.Numbers.{lower_mono, levels_least, place_inside, place_top}
 use Rattle.tree.proofs.Whole.{length-level}
-
-div_mono : (m n l : ℕ) → m ≤ n → m / 16 ^ l ≤ n / 16 ^ l
-div_mono m n l h =
-    let some : 0 < 16 ^ l = subst (λ p. 0 < p) (sixteens l) (pow_pos (4 * l)) in
-    (le-div_iff_mul-le some).1 (le_trans (div-mul-le_self m (16 ^ l)) h)
 
 flat_cell : (cs : List (List ℕ)) (r : ℕ) → Wide cs → r < length cs → take 32 (drop (32 * r) (flat cs)) ≡ get_or cs r []
 flat_cell [] r w h = absurd (omega arith)
-flat_cell (c ∷ cs) zero w h = take_at c (flat cs) 32 w.0
+flat_cell (c ∷ cs) zero w h = take_at c (flat cs) 32 (wide_first c cs w)
 flat_cell (c ∷ cs) (suc r) w h =
-    let past : 32 * suc r ≡ length c + 32 * r = omega (arith, w.0) in
-    ap (λ n. take 32 (drop n (c ++ flat cs))) past ∙ ap (take 32) (drop_past c (flat cs) (32 * r)) ∙ flat_cell cs r w.1 (le_of_suc-le-suc h)
+    let past : 32 * suc r ≡ length c + 32 * r = omega (arith, wide_first c cs w) in
+    ap (λ n. take 32 (drop n (c ++ flat cs))) past ∙ ap (take 32) (drop-append-add c (flat cs) (32 * r)) ∙ flat_cell cs r (wide_rest c cs w) (le_of_suc-le-suc h)
 
 side_cell : (cs : List (List ℕ)) (r : ℕ) → Wide cs → r < length cs → cell_at (side_by_side cs) r ≡ get_or cs r []
 unfolding cell_at side_by_side
@@ -38,7 +34,7 @@ pack_cell cs i w h =
     let r = i % 16 in
     let at : 16 * q + r ≡ i = omega arith in
     let inside : r < length (sixteen cs q) = omega (arith, length-take 16 (drop (16 * q) cs), length-drop (16 * q) cs) in
-    ap (λ b. cell_at b r) (get_or-pack cs q [] (omega arith)) ∙ side_cell (sixteen cs q) r (wide_take 16 (drop (16 * q) cs) (wide_drop (16 * q) cs w)) inside
+    ap (λ b. cell_at b r) (get_or-pack cs q [] (omega arith)) ∙ side_cell (sixteen cs q) r (wide_sixteen cs q w) inside
     ∙ get_or-take 16 (drop (16 * q) cs) r [] (omega arith) ∙ get_or-drop (16 * q) cs r [] ∙ ap (λ n. get_or cs n []) at
 
 module _ (image : List ℕ → List ℕ) (wide : (block : List ℕ) → length (image block) ≡ 32) where
@@ -70,14 +66,10 @@ module _ (image : List ℕ → List ℕ) (wide : (block : List ℕ) → length (
     unfolding tree_of total
     in_tree l j h inside = ap (λ k. get_or (tree_of image bs) (above (length bs) k + j) []) (add-one l) ∙ in_stack (levels (length bs)) l j h inside
 
-    -- the block of level l that data block k has its place in
-    inside_level : (l k : ℕ) → k < length bs → k / 16 ^ suc l < width (length bs) l
-    inside_level l k h = omega (arith, width_is (length bs) l least, div_mono k (length bs - 1) (suc l) (omega arith))
-
     -- where data block k has its place at level l, and in which block
     at_place : (l k : ℕ) → l < levels (length bs) → k < length bs → get_or (tree_of image bs) (place (length bs) l k).0 [] ≡ get_or (level image l bs) (k / 16 ^ suc l) []
     unfolding place
-    at_place l k h inside = in_tree l (k / 16 ^ suc l) h (inside_level l k inside)
+    at_place l k h inside = in_tree l (k / 16 ^ suc l) h (place_inside (length bs) l k least inside)
 
     cell_there : (l k : ℕ) → l < levels (length bs) → k < length bs
         → cell_of (tree_of image bs) (place (length bs) l k) ≡ cell_at (get_or (level image l bs) (k / 16 ^ l / 16) []) (k / 16 ^ l % 16)
@@ -86,10 +78,6 @@ module _ (image : List ℕ → List ℕ) (wide : (block : List ℕ) → length (
         let e : k / 16 ^ suc l ≡ k / 16 ^ l / 16 = ap (λ p. k / p) (pow-suc 16 l) ∙ sym (div-div-eq-div-mul k (16 ^ l) 16) in
         ap (λ b. cell_at b (k / 16 ^ l % 16)) (at_place l k h inside ∙ ap (λ j. get_or (level image l bs) j []) e)
 
-    top_place : (l k : ℕ) → suc l ≡ levels (length bs) → length bs ≤ 4096 → k < length bs → (place (length bs) l k).0 ≡ 0
-    unfolding place
-    top_place l k last most inside = omega (arith, start_top (length bs) l last, inside_level l k inside, top_width (length bs) l least most last)
-
     pub lead_up : length bs ≤ 4096 → LeadUp image bs (tree_of image bs) (root_of image bs)
     unfolding root_of
     lead_up most k inside = record {
@@ -97,15 +85,15 @@ module _ (image : List ℕ → List ℕ) (wide : (block : List ℕ) → length (
           let one : k / 16 ^ 0 ≡ k = div-one k in
           cell_there 0 k (levels_least (length bs) least most) inside ∙ (λ i. cell_at (get_or (level image 0 bs) (one i / 16) []) (one i % 16)) ∙ level_cell bs k inside;
       between = λ l more.
-          cell_there (suc l) k more inside ∙ level_cell (level image l bs) (k / 16 ^ suc l) (omega (arith, length-level image bs l, inside_level l k inside))
+          cell_there (suc l) k more inside ∙ level_cell (level image l bs) (k / 16 ^ suc l) (omega (arith, length-level image bs l, place_inside (length bs) l k least inside))
           ∙ ap image (sym (at_place l k (omega arith) inside));
       top = λ l last.
-          let only : (place (length bs) l k).0 ≡ 0 = top_place l k last most inside in
+          let only : (place (length bs) l k).0 ≡ 0 = place_top (length bs) l k least most last inside in
           ap (λ j. image (get_or (tree_of image bs) j [])) (sym only);
     }
 
   -- so do those in whatever is the tree and the root
-  pub leads_there : (bs : List (List ℕ)) (n : ℕ) (tree : List (List ℕ)) (root : List ℕ) → length bs ≡ n → 1 ≤ n → n ≤ 4096 → (tree ≡ tree_of image bs) × (root ≡ root_of image bs) → LeadUp image bs tree root
-  leads_there bs n tree root size least most is k inside =
-      let P : List (List ℕ) × List ℕ → Type 0 = λ p. Leads image bs p.0 p.1 k in
-      subst P (λ i. (sym is.0 i, sym is.1 i)) (lead_up bs (omega arith) (omega arith) k inside)
+  pub leads_there : (bs tree : List (List ℕ)) (root : List ℕ) → 1 ≤ length bs → length bs ≤ 4096 → (tree ≡ tree_of image bs) × (root ≡ root_of image bs) → LeadUp image bs tree root
+  leads_there bs tree root least most is =
+      let P : List (List ℕ) × List ℕ → Type 0 = λ p. LeadUp image bs p.0 p.1 in
+      subst P (λ i. (sym is.0 i, sym is.1 i)) (lead_up bs least most)

@@ -1,7 +1,7 @@
 -- How the hash tree over a volume's contents lies on the tree device. A block is 512 bytes and a cell, the image of a block, 32.
 use Rattle.std.specs.Prelude.{ℕ, zero, suc, ◌+◌, ◌-◌, ◌*◌, List, [], ◌++◌, map, length, take, drop, replicate, slice_index_or}
 use Rattle.std.specs.List.{range_with_len, flat_map}
-use Rattle.tree.specs.Geometry.{up, levels}
+use Rattle.geometry.specs.Geometry.{up, levels}
 
 -- a block of zeros
 unfoldable pub zero_block : List ℕ

@@ -1,3 +1,2 @@
-pub mod Geometry
 pub mod Layout
 pub mod Paths

@@ -1,6 +1,6 @@
 -- What the places are for: from any data block they lead up, image by image, to the root.
 use Rattle.std.specs.Prelude.{◌≡◌, ℕ, suc, ◌*◌, ◌<◌, List, [], length, take, drop, slice_index_or}
-use Rattle.tree.specs.Geometry.{levels, place}
+use Rattle.geometry.specs.Geometry.{levels, place}
 
 -- cell c of a block
 unfoldable pub cell_at : List ℕ → ℕ → List ℕ

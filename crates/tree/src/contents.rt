@@ -2,7 +2,7 @@
 ghost use Rattle.std.specs.Prelude.{◌≡◌, ◌<◌, ◌≤◌, replicate, IfOk, vec_len, MatchResult, slice_set};
 ghost use Rattle.tree.specs.Layout.{zero_block};
 
-use crate::geometry::Geometry;
+use geometry::Geometry;
 use std::alloc::{AllocError, Global};
 
 #[derive(Drop)]
@@ -31,10 +31,8 @@ impl Contents {
     pub fn put(&mut self, at: usize, block: &[u8; 512]) -> Result<(), PastEnd>
         ensures { MatchResult result (λ _. (at < vec_len self.old.blocks) × (self.new.blocks.items ≡ slice_set self.old.blocks.items at block.now)) (λ e. (vec_len self.old.blocks ≤ at) × (e.at ≡ at) × (self.new ≡ self.old)) }
     {
-        if at >= self.blocks.len() {
-            return Err(PastEnd { at });
-        }
-        self.blocks[at] = *block;
+        let slot = self.blocks.get_mut(at).ok_or(PastEnd { at })?;
+        *slot = *block;
         Ok(())
     }
 
@@ -49,11 +47,7 @@ impl Contents {
 }
 
 pub(crate) fn zero_blocks(heap: Global, count: usize) -> Result<Vec<[u8; 512]>, AllocError>
-    ensures { IfOk result (λ v. (v.items ≡ replicate count zero_block) × (vec_len v ≡ count)) }
+    ensures { IfOk result (λ v. v.items ≡ replicate count zero_block) }
 {
-    let mut blocks = Vec::with_capacity(heap, count)?;
-    while blocks.len() < count {
-        blocks.push([0u8; 512])?;
-    }
-    Ok(blocks)
+    vec![in heap; [0u8; 512]; count]
 }

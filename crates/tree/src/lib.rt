@@ -1,6 +1,5 @@
-// The hash tree over the blocks of a volume: its numbers, its layout, and the code that makes it.
+// The hash tree over the blocks of a volume: its layout, and the code that makes it.
 #![tactic(auto)]
 
 pub mod contents;
-pub mod geometry;
 pub mod layout;

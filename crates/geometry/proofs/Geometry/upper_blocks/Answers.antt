@@ -1,24 +1,20 @@
-use Rattle.std.proofs.Common.{◌≡◌, ◌≤◌, ap, add-one, arith}
-use Rattle.geometry.specs.Geometry.{lower, levels, total}
-use Rattle.geometry.proofs.Numbers.{levels_most, lower_most, width_most}
+use Rattle.std.proofs.Common.{rules, ◌-◌, ◌∙◌, refl, arith}
+use Rattle.std.proofs.lemmas.Iterator.{YieldsList-from_range, YieldsList-from_map}
+use Rattle.std.proofs.lemmas.Iterator.Consumers.{sum_by_from_yields_List, fits_by_from_yields_list}
+use Rattle.std.specs.List.{range_with_len}
+use Rattle.geometry.specs.Geometry.{width}
+use Rattle.geometry.proofs.Numbers.{above_is, above_most}
 use Rattle.geometry.proofs.Geometry.upper_blocks.Goals as goal
 
-pub overflow_add-sum : goal.overflow_add-sum
-overflow_add-sum c =
-    let g = c.args.self.now in
-    let higher = c.loop-higher.higher in
-    let few = levels_most g.blocks g.least g.most in
-    let inside : higher ≤ 3 = omega (arith, few, c.loop-higher.invariant.1) in
-    record { fits = omega (arith, c.loop-higher.invariant.0, lower_most g.blocks higher g.least g.most inside, width_most g.blocks higher g.least g.most, c.width_of-sum.ensures) }
-
-pub loop-higher-preserved : goal.loop-higher-preserved
-loop-higher-preserved c =
-    let n = c.args.self.now.blocks in
-    (omega (arith, c.loop-higher.invariant.0, c.width_of-sum.ensures, ap (lower n) (add-one c.loop-higher.higher)), omega (arith, c.levels-higher-end.ensures, c.loop-higher-test.true))
+-- no `let` here: antt would write each out in the long term that it finds for the closure
+pub sum-requires-clause-fits : goal.sum-requires-clause-fits
+sum-requires-clause-fits c =
+    fits_by_from_yields_list (width c.args.self.now.blocks) (range_with_len c.args.level (c.levels.result - c.args.level)) c.map.result _
+    (YieldsList-from_map _ (width c.args.self.now.blocks) (YieldsList-from_range c.args.level c.levels.result (c.levels.result - c.args.level) c.map.ensures.source refl) c.map.ensures.closure (λ x r q k. search rules))
+    (omega (arith, above_is c.args.self.now.blocks c.args.level c.levels.result c.levels.ensures (omega arith), above_most c.args.self.now.blocks c.args.level c.args.self.now.least c.args.self.now.most))
 
 pub returns : goal.returns
-unfolding total
 returns c =
-    let n = c.args.self.now.blocks in
-    let last : c.loop-higher.higher ≡ levels n = omega (arith, c.loop-higher.invariant.1, c.loop-higher-test.false, c.levels-higher-end.ensures) in
-    omega (arith, c.loop-higher.invariant.0, ap (lower n) last)
+    sum_by_from_yields_List (width c.args.self.now.blocks) (range_with_len c.args.level (c.levels.result - c.args.level)) c.map.result _ c.sum.ensures.ran
+    (YieldsList-from_map _ (width c.args.self.now.blocks) (YieldsList-from_range c.args.level c.levels.result (c.levels.result - c.args.level) c.map.ensures.source refl) c.map.ensures.closure (λ x r q k. search rules))
+    ∙ above_is c.args.self.now.blocks c.args.level c.levels.result c.levels.ensures (omega arith)

@@ -1,7 +1,7 @@
 use Rattle.std.proofs.Common.{◌≡◌, ◌≤◌, ◌++◌, map, length, take, vec_items, string_bytes, sym, ap, ◌∙◌, arith}
 use Rattle.std.proofs.lemmas.Result.{IfOk-weaker}
 use Rattle.sim.specs.Block.{sim_block}
-use Rattle.tree.specs.Geometry.{levels, total}
+use Rattle.geometry.specs.Geometry.{levels, total}
 use Rattle.label.specs.Report.{head_line, tree_line, label_line, report_with}
 use Rattle.label.proofs.Volume.{volume_length, volume_sims}
 use Rattle.label.proofs.Reported.{reported}
