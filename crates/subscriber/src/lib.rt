@@ -3,7 +3,9 @@
 #![tactic(auto)]
 
 pub mod block_count;
+
 pub use sheet_error::cause;
+
 mod headers;
 mod hex;
 mod item;

@@ -17,7 +17,12 @@ fn finish(headers: Headers, sims: Vec<Sim>, line: usize) -> Result<Sheet, SheetE
     ensures { Answers (at_line line (whole (draft_of headers sims.items))) result }
 {
     match heading(headers) {
-        Ok(all) => Ok(Sheet::of(all.tray, all.hash, all.blocks, sims)),
+        Ok(all) => Ok(Sheet {
+            tray: all.tray,
+            hash: all.hash,
+            blocks: all.blocks,
+            sims,
+        }),
         Err(cause) => Err(SheetError::Bad { line, cause }),
     }
 }
