@@ -1,30 +1,12 @@
--- Where a text is cut into lines, and a line into words.
-use Rattle.std.proofs.Common.{◌≡◌, ℕ, suc, ◌+◌, ◌-◌, ◌<◌, Bool, true, false, cond, not, eqb, List, [], ◌∷◌, length, get_or, take, drop, sym, refl, ap, ◌∙◌, subst, add-one, one-add, arith}
-use Rattle.std.proofs.lemmas.List.{drop_all, drop-drop, nil_from_length, take_rest, length-drop}
+-- Where a line is cut into words.
+use Rattle.std.proofs.Common.{◌≡◌, ℕ, ◌+◌, ◌<◌, Bool, true, false, cond, not, List, [], ◌∷◌, length, get_or, take, drop, sym, refl, ap, ◌∙◌, subst, one-add, arith}
 use Rattle.std.proofs.lemmas.Bool.{cond-false}
 use Rattle.std.specs.List.{prefix_len}
 use Rattle.subscriber.specs.Scan.{blank}
-use Rattle.subscriber.specs.Text.{onto_first, lines, begins, words}
-
-abbrev inline : ℕ → Bool
-inline c = not (eqb c 10)
+use Rattle.subscriber.specs.Text.{onto_first, begins, words}
 
 abbrev solid : ℕ → Bool
 solid c = not (blank c)
-
--- a byte that ends no line goes before the first line of what follows
-line_on : (c : ℕ) (ds : List ℕ) → (0 < length ds → lines ds ≡ take (prefix_len inline ds) ds ∷ lines (drop (suc (prefix_len inline ds)) ds)) → onto_first c (lines ds) ≡ (c ∷ take (prefix_len inline ds) ds) ∷ lines (drop (suc (prefix_len inline ds)) ds)
-line_on c [] on = refl
-line_on c (d ∷ ds) on = ap (onto_first c) (on (omega arith))
-
-line_by : (c : ℕ) (cs : List ℕ) (b : Bool) → onto_first c (lines cs) ≡ (c ∷ take (prefix_len inline cs) cs) ∷ lines (drop (suc (prefix_len inline cs)) cs) → cond b ([] ∷ lines cs) (onto_first c (lines cs)) ≡ take (cond (not b) (1 + prefix_len inline cs) 0) (c ∷ cs) ∷ lines (drop (suc (cond (not b) (1 + prefix_len inline cs) 0)) (c ∷ cs))
-line_by c cs true on = refl
-line_by c cs false on = rw one-add on
-
--- the first line ends at the first newline
-pub lines_cut : (t : List ℕ) → 0 < length t → lines t ≡ take (prefix_len inline t) t ∷ lines (drop (suc (prefix_len inline t)) t)
-lines_cut [] h = absurd (omega arith)
-lines_cut (c ∷ cs) h = line_by c cs (eqb c 10) (line_on c cs (lines_cut cs))
 
 -- s begins with the first of the words ws, and the others follow
 abbrev pub Cutting : List ℕ → List (List ℕ) → Type 0
@@ -50,17 +32,6 @@ skip_by c cs false e on = word_cut c cs e
 pub words_cut : (t : List ℕ) → Cutting (drop (prefix_len blank t) t) (words t)
 words_cut [] = (refl, refl)
 words_cut (c ∷ cs) = skip_by c cs (blank c) refl (words_cut cs)
-
--- a text parted at n, where its first line ends: with nothing more behind it, or with the newline
-pub line_last : (t front back : List ℕ) (n : ℕ) → 0 < length t → n ≡ prefix_len inline t → front ≡ take n t → back ≡ drop n t → length back ≡ 0 → lines t ≡ front ∷ lines back
-line_last t front back n some e f b none =
-    let gone : drop (suc n) t ≡ [] = drop_all (suc n) t (omega (arith, ap length b ∙ length-drop n t)) in
-    lines_cut t some ∙ rw (← e, gone, f, nil_from_length back none)
-
-pub line_next : (t front back : List ℕ) (n : ℕ) → 0 < length t → n ≡ prefix_len inline t → front ≡ take n t → back ≡ drop n t → lines t ≡ front ∷ lines (take (length back - 1) (drop 1 back))
-line_next t front back n some e f b =
-    let next : take (length back - 1) (drop 1 back) ≡ drop (suc n) t = take_rest back 1 ∙ ap (drop 1) b ∙ drop-drop 1 n t ∙ ap (λ k. drop k t) (add-one n) in
-    lines_cut t some ∙ rw (← e, next, f)
 
 -- a line whose blanks end at n, and whose first word is m bytes long
 pub word_parts : (line s front back : List ℕ) (n m : ℕ) → n ≡ prefix_len blank line → s ≡ drop n line → m ≡ prefix_len solid s → front ≡ take m s → back ≡ drop m s → (front ≡ get_or (words line) 0 []) × (words back ≡ drop 1 (words line))

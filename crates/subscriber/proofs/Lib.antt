@@ -1,7 +1,6 @@
 pub mod Cuts
+pub mod TextLines
 pub mod Numbers
 pub mod Keys
 pub mod Lines
-pub mod Steps
-pub mod Sheets
 pub mod Listing

@@ -1,5 +1,5 @@
 -- A good sheet lists what its lines say, each header once and the SIMs in their order.
-use Rattle.std.proofs.Common.{◌≡◌, ℕ, ◌+◌, ◌≤◌, Bool, true, false, cond, eqb, ltb, List, [], ◌∷◌, ◌++◌, length, is_some, IfOk, Some, None, Ok, Err, vec_items, Option, Result, sym, refl, ap, ◌∙◌, arith}
+use Rattle.std.proofs.Common.{◌≡◌, ℕ, ◌+◌, Bool, true, false, cond, eqb, ltb, List, [], ◌∷◌, ◌++◌, length, is_some, Some, None, Ok, Err, vec_items, Option, Result, sym, refl, ap, ◌∙◌, arith}
 use Rattle.std.proofs.lemmas.List.{append_assoc, append-nil, length-map}
 use Rattle.std.specs.Option.{option_to_list}
 use Rattle.sheet_error.specs.declared.cause.Cause.{Cause}
@@ -7,14 +7,27 @@ use Rattle.sheet_error.specs.declared.cause.Cause.TheVariants.{Repeated, Late, T
 use Rattle.sheet_error.specs.declared.cause.Header.{Header}
 use Rattle.sheet_error.specs.declared.cause.Header.TheVariants.{Tray, Hash, Blocks}
 use Rattle.subscriber.specs.declared.tray.HashChoice.{HashChoice}
-use Rattle.sheet_error.specs.declared.cause.SheetError.{SheetError}
 use Rattle.subscriber.specs.declared.sheet.Sheet.{Sheet}
-use Rattle.subscriber.specs.Answer.{Answers, plain_sheet}
+use Rattle.subscriber.specs.Answer.{plain_sheet}
 use Rattle.subscriber.specs.Plain.{entry_of}
-use Rattle.subscriber.specs.Items.{Entry, Said, nothing, tray_is, hash_is, blocks_are, sim_is, line_says}
+use Rattle.subscriber.specs.Items.{Entry, Said, nothing, tray_is, hash_is, blocks_are, sim_is, with_ok, then_ok, line_says}
 use Rattle.subscriber.specs.Sheet.{Draft, Whole, empty, whole_of, whole, add, next, after_line, at_line, read_from, sheet_of, picked, gathered, a_tray, a_hash, a_count, a_sim, Listed}
 use Rattle.subscriber.specs.Text.{lines}
-use Rattle.subscriber.proofs.Sheets.{err_not_ok, same_ok, then_made, with_made}
+
+err_not_ok : {A E : Type 0} (e : E) (x : A) → ◌≡◌ {A = Result A E} (Err e) (Ok x) → ⊥
+err_not_ok e x p = let z : ◌≡◌ {A = ℕ} 0 1 = cc in omega arith
+
+same_ok : {A E : Type 0} (x y : A) → ◌≡◌ {A = Result A E} (Ok x) (Ok y) → x ≡ y
+same_ok x y p = cc
+
+-- what was made was made from something
+then_made : {A B E : Type 0} (r : Result A E) (f : A → Result B E) (y : B) → then_ok r f ≡ Ok y → (x : A) × (r ≡ Ok x) × (f x ≡ Ok y)
+then_made (Ok x) f y p = (x, refl, p)
+then_made (Err e) f y p = absurd (err_not_ok e y p)
+
+with_made : {A B E : Type 0} (r : Result A E) (f : A → B) (y : B) → with_ok f r ≡ Ok y → (x : A) × (r ≡ Ok x) × (f x ≡ y)
+with_made (Ok x) f y p = (x, refl, same_ok _ _ p)
+with_made (Err e) f y p = absurd (err_not_ok e y p)
 
 -- a part of a draft that grows by what each line says, and is all there at the end
 pub record Grows {A : Type 0} (part : Draft → List A) (all : Whole → List A) (pick : Said → List A) : Type 0 where
@@ -132,17 +145,12 @@ blocks_grow = record { more = blocks_more; end = λ d w p. (has_all d w p).block
 sims_grow : Grows (λ d. d.sims) (λ w. w.sims) a_sim
 sims_grow = record { more = sims_more; end = λ d w p. (has_all d w p).sims }
 
-pub listed : (text : List ℕ) (w : Whole) → sheet_of text ≡ Ok w → length w.sims ≤ w.blocks → Listed text w
+pub sheet_listed : (text : List ℕ) (s : Sheet) → sheet_of text ≡ Ok (plain_sheet s) → Listed text (plain_sheet s)
 unfolding sheet_of
-listed text w p few = record {
-  tray = sym (from_here tray_grows (lines text) 1 empty w p);
-  hash = sym (from_here hash_grows (lines text) 1 empty w p);
-  blocks = sym (from_here blocks_grow (lines text) 1 empty w p);
-  sims = sym (from_here sims_grow (lines text) 1 empty w p);
-  few = few;
+sheet_listed text s p = record {
+  tray = sym (from_here tray_grows (lines text) 1 empty (plain_sheet s) p);
+  hash = sym (from_here hash_grows (lines text) 1 empty (plain_sheet s) p);
+  blocks = sym (from_here blocks_grow (lines text) 1 empty (plain_sheet s) p);
+  sims = sym (from_here sims_grow (lines text) 1 empty (plain_sheet s) p);
+  few = omega (arith, s.few, s.sims.ok.0, length-map (vec_items s.sims) entry_of);
 }
-
--- what the reader answers
-pub answer_listed : (text : List ℕ) (r : Result Sheet SheetError) → Answers (sheet_of text) r → IfOk r (λ s. Listed text (plain_sheet s))
-answer_listed text (Ok s) p = listed text (plain_sheet s) p (omega (arith, s.few, s.sims.ok.0, length-map (vec_items s.sims) entry_of))
-answer_listed text (Err e) p = tt

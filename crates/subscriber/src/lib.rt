@@ -6,14 +6,15 @@ pub mod block_count;
 
 pub use sheet_error::cause;
 
-mod headers;
+mod fault;
 mod hex;
 mod item;
+mod line;
 mod number;
 pub mod read;
+mod reading;
 mod scan;
 pub mod sheet;
-mod step;
 mod text;
 pub mod tray;
 

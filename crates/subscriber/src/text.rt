@@ -11,23 +11,6 @@ pub struct Cut<'a> {
     pub rest: &'a [u8],
 }
 
-// The first line, without its newline.
-pub(crate) fn cut_line(text: &[u8]) -> Cut<'_>
-    requires { 0 < length text.now }
-    ensures first { lines text.now ≡ result.piece.now ∷ lines result.rest.now }
-    ensures shorter { length result.rest.now < length text.now }
-{
-    let end = run(text, Class::Inline);
-    let (piece, rest) = text.split_at(end);
-    if rest.is_empty() {
-        return Cut { piece, rest };
-    }
-    Cut {
-        piece,
-        rest: &rest[1..],
-    }
-}
-
 // The first word, which is empty where there is none.
 pub(crate) fn cut_word(line: &[u8]) -> Cut<'_>
     ensures first { result.piece.now ≡ slice_index_or (words line.now) 0 [] }
