@@ -20,6 +20,7 @@ pub fn read_sheet(heap: Global, text: &[u8]) -> Result<Sheet, SheetError>
     for (i, line) in lines.enumerate() {
         reading.take_line(line).map_err(|fault| fault.at(i + 1))?;
     }
+    // A match, since the check infers nothing of what a closure round `count` returns.
     match reading.finish() {
         Ok(sheet) => Ok(sheet),
         Err(cause) => Err(SheetError::Bad {
