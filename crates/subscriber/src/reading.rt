@@ -14,19 +14,19 @@ use std::alloc::Global;
 
 // All of the headers.
 #[derive(Clone, Copy)]
-pub struct Heading {
-    pub tray: TrayNumber,
-    pub hash: HashChoice,
-    pub blocks: BlockCount,
+struct Heading {
+    tray: TrayNumber,
+    hash: HashChoice,
+    blocks: BlockCount,
 }
 
 // The headers and SIMs that were read so far.
 #[derive(Drop)]
 pub struct Reading {
-    pub tray: Option<TrayNumber>,
-    pub hash: Option<HashChoice>,
-    pub blocks: Option<BlockCount>,
-    pub sims: Vec<Sim>,
+    tray: Option<TrayNumber>,
+    hash: Option<HashChoice>,
+    blocks: Option<BlockCount>,
+    sims: Vec<Sim>,
     // There is a block for each SIM.
     ghost room: { ForSome blocks (λ b. vec_len sims ≤ b.value) },
 }
@@ -48,7 +48,7 @@ fn fill<T: Copy>(slot: &mut Option<T>, header: Header, sims: usize, value: T) ->
 }
 
 impl Reading {
-    ghost use Rattle.std.specs.Prelude.{◌≡◌, OnErr, List};
+    ghost use Rattle.std.specs.Prelude.{◌≡◌, OnErr};
     ghost use Rattle.subscriber.specs.Answer.{draft_of, whole_with, plain_sheet, Stepped};
     ghost use Rattle.subscriber.specs.Items.{with_ok};
     ghost use Rattle.subscriber.specs.Plain.{entry_of, plain};

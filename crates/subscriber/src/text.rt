@@ -1,6 +1,6 @@
-// Lines and words of a text.
-ghost use Rattle.std.specs.Prelude.{◌≡◌, ◌+◌, ◌<◌, ◌≤◌, [], ◌∷◌, length, drop, slice_index_or};
-ghost use Rattle.subscriber.specs.Text.{lines, words};
+// The words of a line.
+ghost use Rattle.std.specs.Prelude.{◌≡◌, ◌+◌, ◌≤◌, [], length, drop, slice_index_or};
+ghost use Rattle.subscriber.specs.Text.{words};
 
 use crate::scan::{Class, run};
 
