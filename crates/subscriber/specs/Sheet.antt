@@ -1,5 +1,5 @@
 -- What a sheet says: its lines are taken one after the other.
-use Rattle.std.specs.Prelude.{◌≡◌, ℕ, ◌+◌, ◌≤◌, Bool, cond, List, [], ◌∷◌, ◌++◌, flat_map, length, is_some, Some, None, Ok, Err, Option, Result, ◌==◌, nat_lt}
+use Rattle.std.specs.Prelude.{◌≡◌, ℕ, ◌+◌, ◌≤◌, Bool, if◌then◌else◌, List, [], ◌∷◌, ◌++◌, flat_map, length, is_some, Some, None, Ok, Err, Option, Result, ◌==◌, nat_lt}
 use Rattle.sheet_error.specs.declared.cause.Cause.{Cause}
 use Rattle.sheet_error.specs.declared.cause.Cause.TheVariants.{Missing, Repeated, Late, TooManySims}
 use Rattle.sheet_error.specs.declared.cause.Header.{Header}
@@ -39,14 +39,13 @@ whole d = whole_of d.tray d.hash d.blocks d.sims
 
 -- a header stands before the first SIM, and only once
 abbrev pub allowed : Header → Bool → ℕ → Result (Unit {0}) Cause
-allowed h there sims = cond (sims == 0) (cond there (Err (Repeated h)) (Ok tt)) (Err (Late h))
+allowed h there sims = if sims == 0 then (if there then Err (Repeated h) else Ok tt) else Err (Late h)
 
 -- a SIM comes after the headers, and has a block of its own
 abbrev pub add : Draft → Entry → Result Draft Cause
 add d e =
-    then_ok (whole d) (λ w. cond (nat_lt (length d.sims) w.blocks)
-    (Ok (record d { sims = d.sims ++ (e ∷ []) }))
-    (Err TooManySims))
+    then_ok (whole d) (λ w.
+    if nat_lt (length d.sims) w.blocks then Ok (record d { sims = d.sims ++ (e ∷ []) }) else Err TooManySims)
 
 -- what is read after a line that says this
 abbrev pub next : Draft → Said → Result Draft Cause

@@ -1,5 +1,5 @@
 -- The lines of a text, and the words of a line.
-use Rattle.std.specs.Prelude.{ℕ, Bool, false, cond, not, List, [], ◌∷◌, ◌==◌}
+use Rattle.std.specs.Prelude.{ℕ, Bool, false, cond, if◌then◌else◌, not, List, [], ◌∷◌, ◌==◌}
 use Rattle.subscriber.specs.Scan.{blank}
 
 -- a byte put before the first piece
@@ -10,7 +10,7 @@ onto_first c (p ∷ ps) = (c ∷ p) ∷ ps
 -- a newline ends a line; what follows the last newline is a line unless it is empty
 abbrev pub lines : List ℕ → List (List ℕ)
 lines [] = []
-lines (c ∷ cs) = cond (c == 10) ([] ∷ lines cs) (onto_first c (lines cs))
+lines (c ∷ cs) = if c == 10 then [] ∷ lines cs else onto_first c (lines cs)
 
 -- whether a word begins here
 abbrev pub begins : List ℕ → Bool
