@@ -1,30 +1,19 @@
 -- What the reader has read and answers, in plain numbers.
 use Rattle.std.specs.Prelude.{◌≡◌, ℕ, List, map, Ok, Err, vec_items, Result}
-use Rattle.std.specs.Option.{option_map}
 use Rattle.sheet_error.specs.declared.cause.Cause.{Cause}
 use Rattle.sheet_error.specs.declared.cause.SheetError.{SheetError}
 use Rattle.sheet_error.specs.declared.cause.SheetError.TheVariants as error
 use Rattle.subscriber.specs.declared.fault.Fault.{Fault}
 use Rattle.subscriber.specs.declared.fault.Fault.TheVariants as fault
 use Rattle.subscriber.specs.declared.reading.Heading.{Heading}
-use Rattle.subscriber.specs.declared.reading.Reading.{Reading}
-use Rattle.sim.specs.declared.Sim.{Sim}
 use Rattle.subscriber.specs.declared.sheet.Sheet.{Sheet}
+use Rattle.subscriber.specs.Items.{Entry}
 use Rattle.subscriber.specs.Plain.{entry_of}
 use Rattle.subscriber.specs.Sheet.{Draft, Whole}
 
--- the headers and SIMs that were read so far
-abbrev pub draft_of : Reading → Draft
-draft_of r = record {
-  tray = option_map (λ t. t.value) r.tray;
-  hash = r.hash;
-  blocks = option_map (λ b. b.value) r.blocks;
-  sims = map entry_of (vec_items r.sims);
-}
-
 -- all of the headers, with these SIMs
-abbrev pub whole_with : List Sim → Heading → Whole
-whole_with ss h = record { tray = h.tray.value; hash = h.hash; blocks = h.blocks.value; sims = map entry_of ss }
+abbrev pub whole_with : List Entry → Heading → Whole
+whole_with es h = record { tray = h.tray.value; hash = h.hash; blocks = h.blocks.value; sims = es }
 
 -- the draft after a step is the one that is asked for, or the cause is; want of memory may come at any time
 abbrev pub Stepped : Result Draft Cause → Result (Unit {0}) Fault → Draft → Type 0

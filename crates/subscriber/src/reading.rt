@@ -1,6 +1,5 @@
 // What has been read of a sheet, one line after the other.
-ghost use Rattle.std.specs.Prelude.{◌≡◌, ◌≤◌, Some, is_some, OnOk, OnErr, vec_len};
-ghost use Rattle.std.specs.Option.{ForSome};
+ghost use Rattle.std.specs.Prelude.{◌≡◌, Some, is_some, OnOk, OnErr};
 ghost use Rattle.subscriber.specs.Sheet.{allowed};
 
 use crate::block_count::BlockCount;
@@ -11,6 +10,7 @@ use crate::sheet::Sheet;
 use crate::tray::{HashChoice, TrayNumber};
 use sim::Sim;
 use std::alloc::Global;
+use std::marker::Model;
 
 // All of the headers.
 #[derive(Clone, Copy)]
@@ -27,8 +27,25 @@ pub struct Reading {
     hash: Option<HashChoice>,
     blocks: Option<BlockCount>,
     sims: Vec<Sim>,
-    // There is a block for each SIM.
-    ghost room: { ForSome blocks (λ b. vec_len sims ≤ b.value) },
+}
+
+// Seen as the draft in plain numbers; there is a block for each SIM.
+impl Model for Reading {
+    ghost use Rattle.std.specs.Prelude.{◌≤◌, map, vec_len};
+    ghost use Rattle.std.specs.Option.{ForSome, option_map};
+    ghost use Rattle.subscriber.specs.Plain.{entry_of};
+    ghost use Rattle.subscriber.specs.Sheet.{Draft};
+
+    ghost Value = { Draft };
+
+    ghost view = { λ r. record {
+      tray = option_map (λ t. t.value) r.tray;
+      hash = r.hash;
+      blocks = option_map (λ b. b.value) r.blocks;
+      sims = map entry_of r.sims.items;
+    } };
+
+    ghost invariant = { λ r. ForSome r.blocks (λ b. vec_len r.sims ≤ b.value) };
 }
 
 // A header stands before the first SIM, and only once.
@@ -49,14 +66,14 @@ fn fill<T: Copy>(slot: &mut Option<T>, header: Header, sims: usize, value: T) ->
 
 impl Reading {
     ghost use Rattle.std.specs.Prelude.{◌≡◌, OnErr};
-    ghost use Rattle.subscriber.specs.Answer.{draft_of, whole_with, plain_sheet, Stepped};
+    ghost use Rattle.subscriber.specs.Answer.{whole_with, plain_sheet, Stepped};
     ghost use Rattle.subscriber.specs.Items.{with_ok};
     ghost use Rattle.subscriber.specs.Plain.{entry_of, plain};
     ghost use Rattle.subscriber.specs.Sheet.{empty, whole, next, add, after_line};
 
     // Before the first line.
     pub(crate) fn new(heap: Global) -> Reading
-        ensures { draft_of result ≡ empty }
+        ensures { result ≡ empty }
     {
         Reading {
             tray: None,
@@ -68,7 +85,7 @@ impl Reading {
 
     // All of the headers, or the first that is missing.
     fn heading(&self) -> Result<Heading, Cause>
-        ensures { with_ok (whole_with self.now.sims.items) result ≡ whole (draft_of self.now) }
+        ensures { with_ok (whole_with self.now.sims) result ≡ whole self.now }
     {
         let tray = self.tray.ok_or(Cause::Missing(Header::Tray))?;
         let hash = self.hash.ok_or(Cause::Missing(Header::Hash))?;
@@ -78,8 +95,8 @@ impl Reading {
 
     // Takes a line `sim`.
     fn add_sim(&mut self, sim: Sim) -> Result<(), Fault>
-        ensures step { Stepped (add (draft_of self.old) (entry_of sim)) result (draft_of self.new) }
-        ensures kept { OnErr result (draft_of self.new ≡ draft_of self.old) }
+        ensures step { Stepped (add self.old (entry_of sim)) result self.new }
+        ensures kept { OnErr result (self.new ≡ self.old) }
     {
         let heading = self.heading()?;
         if self.sims.len() >= usize::from(heading.blocks.value) {
@@ -91,8 +108,8 @@ impl Reading {
 
     // Takes what a line says.
     fn take_item(&mut self, item: Item) -> Result<(), Fault>
-        ensures step { Stepped (next (draft_of self.old) (plain item)) result (draft_of self.new) }
-        ensures kept { OnErr result (draft_of self.new ≡ draft_of self.old) }
+        ensures step { Stepped (next self.old (plain item)) result self.new }
+        ensures kept { OnErr result (self.new ≡ self.old) }
     {
         let sims = self.sims.len();
         match item {
@@ -107,15 +124,15 @@ impl Reading {
 
     // Takes one line more.
     pub(crate) fn take_line(&mut self, line: &[u8]) -> Result<(), Fault>
-        ensures step { Stepped (after_line (draft_of self.old) line.now) result (draft_of self.new) }
-        ensures kept { OnErr result (draft_of self.new ≡ draft_of self.old) }
+        ensures step { Stepped (after_line self.old line.now) result self.new }
+        ensures kept { OnErr result (self.new ≡ self.old) }
     {
         self.take_item(read_line(line)?)
     }
 
     // The sheet after its last line.
     pub(crate) fn finish(self) -> Result<Sheet, Cause>
-        ensures { with_ok plain_sheet result ≡ whole (draft_of self) }
+        ensures { with_ok plain_sheet result ≡ whole self }
     {
         let Heading { tray, hash, blocks } = self.heading()?;
         Ok(Sheet {

@@ -1,6 +1,5 @@
 use Rattle.std.proofs.Common.{◌≡◌, ◌+◌, length}
 use Rattle.std.specs.Iterator.Adapters.{enumerate_source, enumerate_count}
-use Rattle.subscriber.specs.Answer.{draft_of}
 use Rattle.subscriber.specs.Sheet.{read_from, sheet_of}
 use Rattle.subscriber.specs.Text.{lines}
 use Rattle.subscriber.proofs.read.read_sheet.Given as goal
@@ -8,5 +7,5 @@ use Rattle.subscriber.proofs.read.read_sheet.Given as goal
 abbrev pub invariant-loop-i : goal.invariant-loop-i
 invariant-loop-i l = record {
   counted : enumerate_count l.i-iterator + length (lines (enumerate_source l.i-iterator).text.now) ≡ length (lines l.text);
-  answer : read_from (enumerate_count l.i-iterator + 1) (draft_of l.reading) (lines (enumerate_source l.i-iterator).text.now) ≡ sheet_of l.text;
+  answer : read_from (enumerate_count l.i-iterator + 1) l.reading (lines (enumerate_source l.i-iterator).text.now) ≡ sheet_of l.text;
 }
