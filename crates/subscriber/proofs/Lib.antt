@@ -1,7 +1,5 @@
-pub mod Cuts
+pub mod Lines
 pub mod Words
 pub mod Numbers
 pub mod Keys
-pub mod Steps
-pub mod Sheets
 pub mod Listing

@@ -1,40 +1,25 @@
 -- What the reader has read and answers, in plain numbers.
-use Rattle.std.specs.Prelude.{◌≡◌, ℕ, ◌≤◌, List, map, length, Some, Ok, Err, vec_items, Result}
-use Rattle.std.specs.Option.{option_map}
+use Rattle.std.specs.Prelude.{◌≡◌, ℕ, List, map, Ok, Err, vec_items, Result}
 use Rattle.sheet_error.specs.declared.cause.Cause.{Cause}
 use Rattle.sheet_error.specs.declared.cause.SheetError.{SheetError}
 use Rattle.sheet_error.specs.declared.cause.SheetError.TheVariants as error
-use Rattle.subscriber.specs.declared.headers.Heading.{Heading}
-use Rattle.subscriber.specs.declared.headers.Headers.{Headers}
-use Rattle.subscriber.specs.declared.headers.Fault.{Fault}
-use Rattle.subscriber.specs.declared.headers.Fault.TheVariants as fault
-use Rattle.sim.specs.declared.Sim.{Sim}
+use Rattle.subscriber.specs.declared.fault.Fault.{Fault}
+use Rattle.subscriber.specs.declared.fault.Fault.TheVariants as fault
+use Rattle.subscriber.specs.declared.reading.Heading.{Heading}
 use Rattle.subscriber.specs.declared.sheet.Sheet.{Sheet}
+use Rattle.subscriber.specs.Items.{Entry}
 use Rattle.subscriber.specs.Plain.{entry_of}
 use Rattle.subscriber.specs.Sheet.{Draft, Whole}
 
--- the headers and SIMs that were read so far
-abbrev pub draft_of : Headers → List Sim → Draft
-draft_of h ss = record {
-  tray = option_map (λ t. t.value) h.tray;
-  hash = h.hash;
-  blocks = option_map (λ b. b.value) h.blocks;
-  sims = map entry_of ss;
-}
-
 -- all of the headers, with these SIMs
-abbrev pub whole_with : List Sim → Heading → Whole
-whole_with ss h = record { tray = h.tray.value; hash = h.hash; blocks = h.blocks.value; sims = map entry_of ss }
+abbrev pub whole_with : List Entry → Heading → Whole
+whole_with es h = record { tray = h.tray.value; hash = h.hash; blocks = h.blocks.value; sims = es }
 
 -- the draft after a step is the one that is asked for, or the cause is; want of memory may come at any time
-abbrev pub Stepped : Result Draft Cause → Result Headers Fault → List Sim → Type 0
-Stepped m (Ok h) ss = m ≡ Ok (draft_of h ss)
-Stepped m (Err (fault.Refused c)) ss = m ≡ Err c
-Stepped m (Err fault.NoMemory) ss = Unit {0}
-
--- there is a block for each SIM
-abbrev pub Room : Draft → Type 0
-Room d = (b : ℕ) → d.blocks ≡ Some b → length d.sims ≤ b
+abbrev pub Stepped : Result Draft Cause → Result (Unit {0}) Fault → Draft → Type 0
+Stepped m (Ok x) d = m ≡ Ok d
+Stepped m (Err (fault.Refused c)) d = m ≡ Err c
+Stepped m (Err fault.NoMemory) d = Unit {0}
 
 -- a sheet, in plain numbers
 abbrev pub plain_sheet : Sheet → Whole

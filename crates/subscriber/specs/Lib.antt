@@ -2,5 +2,6 @@ pub mod Text
 pub mod Number
 pub mod Items
 pub mod Plain
+pub mod Fault
 pub mod Sheet
 pub mod Answer

@@ -1,5 +1,5 @@
 -- What a sheet says: its lines are taken one after the other.
-use Rattle.std.specs.Prelude.{◌≡◌, ℕ, ◌+◌, ◌≤◌, Bool, cond, List, [], ◌∷◌, ◌++◌, length, is_some, Some, None, Ok, Err, Option, Result, ◌==◌, nat_lt}
+use Rattle.std.specs.Prelude.{◌≡◌, ℕ, ◌+◌, ◌≤◌, Bool, if◌then◌else◌, List, [], ◌∷◌, ◌++◌, flat_map, length, is_some, Some, None, Ok, Err, Option, Result, ◌==◌, nat_lt}
 use Rattle.sheet_error.specs.declared.cause.Cause.{Cause}
 use Rattle.sheet_error.specs.declared.cause.Cause.TheVariants.{Missing, Repeated, Late, TooManySims}
 use Rattle.sheet_error.specs.declared.cause.Header.{Header}
@@ -39,24 +39,20 @@ whole d = whole_of d.tray d.hash d.blocks d.sims
 
 -- a header stands before the first SIM, and only once
 abbrev pub allowed : Header → Bool → ℕ → Result (Unit {0}) Cause
-allowed h there sims = cond (sims == 0) (cond there (Err (Repeated h)) (Ok tt)) (Err (Late h))
+allowed h there sims = if sims == 0 then (if there then Err (Repeated h) else Ok tt) else Err (Late h)
 
 -- a SIM comes after the headers, and has a block of its own
 abbrev pub add : Draft → Entry → Result Draft Cause
 add d e =
-    then_ok (whole d) (λ w. cond (nat_lt (length d.sims) w.blocks)
-    (Ok (record { tray = d.tray; hash = d.hash; blocks = d.blocks; sims = d.sims ++ (e ∷ []) }))
-    (Err TooManySims))
+    then_ok (whole d) (λ w.
+    if nat_lt (length d.sims) w.blocks then Ok (record d { sims = d.sims ++ (e ∷ []) }) else Err TooManySims)
 
 -- what is read after a line that says this
 abbrev pub next : Draft → Said → Result Draft Cause
 next d nothing = Ok d
-next d (tray_is n) =
-    with_ok (λ _. record { tray = Some n; hash = d.hash; blocks = d.blocks; sims = d.sims }) (allowed Tray (is_some d.tray) (length d.sims))
-next d (hash_is h) =
-    with_ok (λ _. record { tray = d.tray; hash = Some h; blocks = d.blocks; sims = d.sims }) (allowed Hash (is_some d.hash) (length d.sims))
-next d (blocks_are n) =
-    with_ok (λ _. record { tray = d.tray; hash = d.hash; blocks = Some n; sims = d.sims }) (allowed Blocks (is_some d.blocks) (length d.sims))
+next d (tray_is n) = with_ok (λ _. record d { tray = Some n }) (allowed Tray (is_some d.tray) (length d.sims))
+next d (hash_is h) = with_ok (λ _. record d { hash = Some h }) (allowed Hash (is_some d.hash) (length d.sims))
+next d (blocks_are n) = with_ok (λ _. record d { blocks = Some n }) (allowed Blocks (is_some d.blocks) (length d.sims))
 next d (sim_is e) = add d e
 
 -- what is read after this line
@@ -84,40 +80,27 @@ picked pick (Err c) = []
 
 -- the same of each line, in their order
 abbrev pub gathered : {A : Type 0} → (Said → List A) → List (List ℕ) → List A
-gathered pick [] = []
-gathered pick (l ∷ ls) = picked pick (line_says l) ++ gathered pick ls
+gathered pick ls = flat_map (λ l. picked pick (line_says l)) ls
 
 -- the tray's number, where a line has it
 abbrev pub a_tray : Said → List ℕ
-a_tray nothing = []
 a_tray (tray_is n) = n ∷ []
-a_tray (hash_is h) = []
-a_tray (blocks_are n) = []
-a_tray (sim_is e) = []
+a_tray _ = []
 
 -- the hash
 abbrev pub a_hash : Said → List HashChoice
-a_hash nothing = []
-a_hash (tray_is n) = []
 a_hash (hash_is h) = h ∷ []
-a_hash (blocks_are n) = []
-a_hash (sim_is e) = []
+a_hash _ = []
 
 -- the number of blocks
 abbrev pub a_count : Said → List ℕ
-a_count nothing = []
-a_count (tray_is n) = []
-a_count (hash_is h) = []
 a_count (blocks_are n) = n ∷ []
-a_count (sim_is e) = []
+a_count _ = []
 
 -- the SIM
 abbrev pub a_sim : Said → List Entry
-a_sim nothing = []
-a_sim (tray_is n) = []
-a_sim (hash_is h) = []
-a_sim (blocks_are n) = []
 a_sim (sim_is e) = e ∷ []
+a_sim _ = []
 
 -- a good sheet: each header stands in just one line, the SIMs are those of the lines `sim` in their order, and each has a block
 pub record Listed (text : List ℕ) (w : Whole) : Type 0 where

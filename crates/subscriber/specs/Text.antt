@@ -1,5 +1,5 @@
 -- The lines of a text, and the words of a line.
-use Rattle.std.specs.Prelude.{ℕ, Bool, false, ◌||◌, cond, not, List, [], ◌∷◌, ◌==◌}
+use Rattle.std.specs.Prelude.{ℕ, Bool, false, ◌||◌, if◌then◌else◌, not, List, [], ◌∷◌, ◌==◌}
 
 -- a byte put before the first piece
 abbrev pub onto_first : ℕ → List (List ℕ) → List (List ℕ)
@@ -9,7 +9,7 @@ onto_first c (p ∷ ps) = (c ∷ p) ∷ ps
 -- a newline ends a line; what follows the last newline is a line unless it is empty
 abbrev pub lines : List ℕ → List (List ℕ)
 lines [] = []
-lines (c ∷ cs) = cond (c == 10) ([] ∷ lines cs) (onto_first c (lines cs))
+lines (c ∷ cs) = if c == 10 then [] ∷ lines cs else onto_first c (lines cs)
 
 -- a space, a tab or a carriage return
 abbrev pub blank : ℕ → Bool
@@ -23,4 +23,4 @@ begins (c ∷ cs) = not (blank c)
 -- blanks part the words
 abbrev pub words : List ℕ → List (List ℕ)
 words [] = []
-words (c ∷ cs) = cond (blank c) (words cs) (cond (begins cs) (onto_first c (words cs)) ((c ∷ []) ∷ words cs))
+words (c ∷ cs) = if blank c then words cs else (if begins cs then onto_first c (words cs) else (c ∷ []) ∷ words cs)

@@ -6,13 +6,13 @@ pub mod block_count;
 
 pub use sheet_error::cause;
 
-mod headers;
+mod fault;
 mod item;
 mod key;
 mod number;
 pub mod read;
+mod reading;
 pub mod sheet;
-mod step;
 mod text;
 pub mod tray;
 

@@ -1,5 +1,5 @@
 // The sheet of a tray.
-ghost use Rattle.std.specs.Prelude.{◌≡◌, ◌≤◌, vec_len};
+ghost use Rattle.std.specs.Prelude.{◌≤◌, vec_len};
 
 use crate::block_count::BlockCount;
 use crate::tray::{HashChoice, TrayNumber};
@@ -13,26 +13,4 @@ pub struct Sheet {
     pub blocks: BlockCount,
     pub sims: Vec<Sim>,
     ghost few: { vec_len sims ≤ blocks.value },
-}
-
-impl Sheet {
-    pub(crate) fn of(
-        tray: TrayNumber,
-        hash: HashChoice,
-        blocks: BlockCount,
-        sims: Vec<Sim>,
-    ) -> Sheet
-        requires { vec_len sims ≤ blocks.value }
-        ensures tray { result.tray ≡ tray }
-        ensures hash { result.hash ≡ hash }
-        ensures blocks { result.blocks ≡ blocks }
-        ensures sims { result.sims ≡ sims }
-    {
-        Sheet {
-            tray,
-            hash,
-            blocks,
-            sims,
-        }
-    }
 }

@@ -1,28 +1,41 @@
-// Lines and words of a text.
-ghost use Rattle.std.specs.Prelude.{◌≡◌, ◌<◌, ◌∷◌, length};
-ghost use Rattle.subscriber.specs.Text.{blank, lines};
+// The lines of a text, and the words of a line.
+ghost use Rattle.std.specs.Prelude.{◌≡◌, ◌^◌, ◌<◌, ◌∷◌, length};
+ghost use Rattle.std.specs.Iterator.{YieldsFirstRef, item_count};
+ghost use Rattle.subscriber.specs.Text.{blank, lines, words};
 
-// A piece at the front of a text, and what follows it.
+// The lines that are left of a text, each without its newline.
 #[derive(Clone, Copy)]
-pub struct Cut<'a> {
-    pub piece: &'a [u8],
-    pub rest: &'a [u8],
+pub struct Lines<'a> {
+    pub text: &'a [u8],
+    // So that a count of them fits.
+    ghost few: { length (lines text.now) < 2 ^ 63 },
 }
 
-// The first line, without its newline.
-pub(crate) fn cut_line(text: &[u8]) -> Cut<'_>
+// The first line, and what follows its newline.
+fn cut_line(text: &[u8]) -> (&[u8], &[u8])
     requires { 0 < length text.now }
-    ensures first { lines text.now ≡ result.piece.now ∷ lines result.rest.now }
-    ensures shorter { length result.rest.now < length text.now }
+    ensures { lines text.now ≡ result.0.now ∷ lines result.1.now }
 {
-    let end = text.iter().take_while(|b| **b != b'\n').count();
-    let (piece, rest) = text.split_at(end);
-    if rest.is_empty() {
-        return Cut { piece, rest };
+    match text.iter().position(|b| *b == b'\n') {
+        Some(end) => (&text[..end], &text[end + 1..]),
+        None => (text, &[]),
     }
-    Cut {
-        piece,
-        rest: &rest[1..],
+}
+
+impl<'a> Iterator for Lines<'a> {
+    type Item = &'a [u8];
+
+    ghost next_gives = { YieldsFirstRef (λ left. lines left.text.now) };
+
+    ghost remaining = { item_count (λ left. lines left.text.now) };
+
+    fn next(&mut self) -> Option<&'a [u8]> {
+        if self.text.is_empty() {
+            return None;
+        }
+        let (line, rest) = cut_line(self.text);
+        self.text = rest;
+        Some(line)
     }
 }
 
@@ -40,9 +53,6 @@ pub(crate) struct Words<'a> {
 }
 
 impl<'a> Iterator for Words<'a> {
-    ghost use Rattle.std.specs.Iterator.{YieldsFirstRef, item_count};
-    ghost use Rattle.subscriber.specs.Text.{words};
-
     type Item = &'a [u8];
 
     ghost next_gives = { YieldsFirstRef (λ s. words s.text.now) };

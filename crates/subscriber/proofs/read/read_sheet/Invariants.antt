@@ -1,11 +1,11 @@
-use Rattle.std.proofs.Common.{◌≡◌, ◌+◌, ◌≤◌, length, vec_items}
-use Rattle.subscriber.specs.Answer.{draft_of, Room}
+use Rattle.std.proofs.Common.{◌≡◌, ◌+◌, length}
+use Rattle.std.specs.Iterator.Adapters.{enumerate_source, enumerate_count}
 use Rattle.subscriber.specs.Sheet.{read_from, sheet_of}
 use Rattle.subscriber.specs.Text.{lines}
 use Rattle.subscriber.proofs.read.read_sheet.Given as goal
 
-abbrev pub invariant-loop-rest : goal.invariant-loop-rest
-invariant-loop-rest l = (read_from l.line (draft_of l.headers (vec_items l.sims)) (lines l.rest) ≡ sheet_of l.text) × (l.line + length l.rest ≤ length l.text + 1) × Room (draft_of l.headers (vec_items l.sims))
-
-abbrev pub decreases-loop-rest : goal.decreases-loop-rest
-decreases-loop-rest l = length l.rest
+abbrev pub invariant-loop-i : goal.invariant-loop-i
+invariant-loop-i l = record {
+  counted : enumerate_count l.i-iterator + length (lines (enumerate_source l.i-iterator).text.now) ≡ length (lines l.text);
+  answer : read_from (enumerate_count l.i-iterator + 1) l.reading (lines (enumerate_source l.i-iterator).text.now) ≡ sheet_of l.text;
+}

@@ -1,26 +1,17 @@
-use Rattle.std.proofs.Common.{sym, ◌∙◌, arith, rules, tests}
-use Rattle.std.proofs.lemmas.Iterator.{YieldsList-from_slice}
-use Rattle.std.proofs.lemmas.Iterator.Consumers.{count_from_yields_List}
-use Rattle.std.proofs.lemmas.Iterator.Search.{YieldsList-from_take_while}
-use Rattle.std.proofs.lemmas.List.{places}
-use Rattle.std.proofs.lemmas.List.Folds.{length-prefix_len}
-use Rattle.std.proofs.lemmas.Bool.{eqb-true, eqb-false}
-use Rattle.subscriber.proofs.Cuts.{inline, line_last, line_next}
+use Rattle.std.proofs.Common.{ℕ, ◌+◌, ◌==◌, length, ◌∙◌, arith, rules, take_all}
+use Rattle.std.proofs.lemmas.List.{take_rest, drop_all}
+use Rattle.std.proofs.lemmas.List.Sums.{position_or_len_is}
+use Rattle.subscriber.proofs.Lines.{lines_first}
 use Rattle.subscriber.proofs.text.cut_line.Goals as goal
 
-pub returns-then-is_empty : goal.returns-then-is_empty
-returns-then-is_empty c =
-    let end = count_from_yields_List c.take_while.result c.count-end.result c.count-end.ensures.ran (YieldsList-from_take_while _ inline (YieldsList-from_slice c.args.text.now cc) c.take_while.ensures.closure c.take_while.ensures.done (λ x b q k. search (rules, tests))) in
-    let parts = c.split_at.ensures in
-    let none = eqb-true _ 0 (sym c.if-is_empty.ensures) in
-    record { first = line_last _ _ _ c.count-end.result c.requires (end ∙ length-prefix_len inline c.args.text.now) parts.front parts.back none; shorter = omega (arith, none) }
+pub returns-in-Some : goal.returns-in-Some
+returns-in-Some c =
+    let text = c.args.text.now in
+    let found = position_or_len_is (λ (b : ℕ). b == 10) text c.in-Some.end 0 (search rules) (search rules) (search rules) in
+    lines_first text c.requires ∙ rw (found, take_rest text (c.in-Some.end + 1))
 
-pub returns : goal.returns
-returns c =
-    let end = count_from_yields_List c.take_while.result c.count-end.result c.count-end.ensures.ran (YieldsList-from_take_while _ inline (YieldsList-from_slice c.args.text.now cc) c.take_while.ensures.closure c.take_while.ensures.done (λ x b q k. search (rules, tests))) in
-    let parts = c.split_at.ensures in
-    let some = eqb-false _ 0 (sym c.if-is_empty.ensures) in
-    record {
-      first = line_next _ _ _ c.count-end.result c.requires (end ∙ length-prefix_len inline c.args.text.now) parts.front parts.back;
-      shorter = search (rules, places);
-    }
+pub returns-in-None : goal.returns-in-None
+returns-in-None c =
+    let text = c.args.text.now in
+    let none = position_or_len_is (λ (b : ℕ). b == 10) text (length text) 0 (omega arith) (search rules) (search rules) in
+    lines_first text c.requires ∙ rw (none, take_all (length text) text (omega arith), drop_all (length text + 1) text (omega arith))
