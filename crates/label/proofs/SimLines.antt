@@ -1,7 +1,7 @@
 -- The line of one SIM more. Assumes nothing.
-use Rattle.std.proofs.Common.{◌≡◌, ℕ, zero, suc, ◌+◌, ◌<◌, ◌≤◌, List, [], ◌∷◌, ◌++◌, map, length, get_or, take, Some, sym, ap, ◌∙◌, append_assoc, append-nil, le_of_suc-le-suc, arith}
+use Rattle.std.proofs.Common.{◌≡◌, ℕ, zero, suc, ◌+◌, ◌<◌, List, [], ◌∷◌, ◌++◌, map, length, get_or, take, Some, sym, ap, ◌∙◌, append_assoc, append-nil, le_of_suc-le-suc, arith}
 use lib.ListN.{length-map}
-use Rattle.std.proofs.lemmas.List.{take_more, take_all, length-take-le, get_or-map}
+use Rattle.std.proofs.lemmas.List.{take_more, length-take-le, get_or-map}
 use Rattle.sim.specs.Block.{sim_block}
 use Rattle.sim.specs.declared.Sim.{Sim}
 use Rattle.label.specs.Report.{sim_line, sim_lines}
@@ -39,6 +39,3 @@ module _ (blocks : List (List ℕ)) (sims : List Sim) (held : map sim_block sims
       let few : k < length sims = omega (arith, length-map sims sim_block, ap length held) in
       let s = member sims k few in
       none (get_or sims k s) (sym (get_or-map sim_block sims k s [] few) ∙ ap (λ l. get_or l k []) held)
-
-  pub lines_all : (before text : List ℕ) (k : ℕ) → length blocks ≤ k → text ≡ before ++ sim_lines 0 (take k sims) → text ≡ before ++ sim_lines 0 sims
-  lines_all before text k h sofar = sofar ∙ ap (λ l. before ++ sim_lines 0 l) (take_all k sims (omega (arith, length-map sims sim_block, ap length held)))

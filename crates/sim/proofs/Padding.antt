@@ -66,10 +66,6 @@ padded_is text high all =
     let wide : length (text ++ zeros) ≡ 20 = simp (length-append, length-replicate) (omega arith) in
     rw long (and_on _ _ (eq-eqb _ 20 wide) ∙ and_true _ _ tail ∙ sym (and_true _ _ (le-leb _ 20 high)) ∙ sym (and_true _ _ (eq-eqb _ _ all)))
 
-pub identity_short : (text : List ℕ) → length text < 6 → is_identity text ≡ false
-unfolding is_identity
-identity_short text h = and_left _ _ (and_left _ _ (lt-leb 6 _ h))
-
 pub identity_long : (text : List ℕ) → 20 < length text → is_identity text ≡ false
 unfolding is_identity
 identity_long text h = and_left _ _ (and_right _ _ (lt-leb _ 20 h))

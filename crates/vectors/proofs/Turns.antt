@@ -1,5 +1,5 @@
 -- One line after another.
-use Rattle.std.proofs.Common.{◌≡◌, ℕ, ◌+◌, ◌<◌, Bool, true, false, cond, List, [], ◌∷◌, length, get_or, is_some, None, Decides, Option, refl, arith, eq-eqb, ne_eqb}
+use Rattle.std.proofs.Common.{◌≡◌, ℕ, ◌+◌, ◌<◌, Bool, true, false, cond, List, [], ◌∷◌, length, get_or, is_some, Decides, Option, refl, arith, eq-eqb, ne_eqb}
 use Rattle.std.specs.Str.Lines.{IsFirstLine}
 use Rattle.vectors.specs.declared.tally.Problem.{Problem}
 use Rattle.vectors.specs.declared.tally.Tally.{Tally}
@@ -10,9 +10,6 @@ use Rattle.vectors.specs.Sip.{LinesOf, Counts, Judged, Tallies, comment}
 abbrev pub Sofar : List ℕ → List ℕ → ℕ → Tally → Type 0
 Sofar text rest n t =
     (end : Tally) (lines : List (List ℕ)) → LinesOf rest lines → Counts lines (n + 1) t.total t.agree t.fault end → Tallies text end
-
-pub none_yet : (text : List ℕ) (t : Tally) → t.total ≡ 0 → t.agree ≡ 0 → t.fault ≡ None → Sofar text text 0 t
-none_yet text t total agree fault end lines of counts = (lines, of, rw (total, agree, fault) at counts)
 
 module _ (text rest : List ℕ) (n : ℕ) (t : Tally) (so_far : Sofar text rest n t) where
   pub all : length rest ≡ 0 → Tallies text t
