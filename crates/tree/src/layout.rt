@@ -15,6 +15,7 @@ fn fill_block<H: Hash>(hash: &H, below: &[[u8; 512]], block: &mut [u8; 512])
     ensures { block.new ≡ side_by_side (map (H.Hash.image hash.now) below.now) }
 {
     let mut cells = [[0; 32]; 16];
+    // By number, since nothing is known afterwards of what a `zip` with `iter_mut` has lent.
     for (i, lower) in below.iter().enumerate() {
         cells[i] = hash.image_of(lower);
     }
