@@ -1,10 +1,9 @@
 -- Laws of words, of their bytes, and of the last word of a message.
-use Rattle.std.specs.Prelude.{◌≡◌, ℕ, ◌+◌, ◌-◌, ◌*◌, ◌/◌, ◌%◌, ◌<◌, ◌≤◌, List, [], ◌∷◌, ◌++◌, map, length, take, drop, set, replicate, fold, slice_index, slice_index_or, slice_set}
-use Rattle.std.proofs.Common.{sym, ap, ◌∙◌, append_assoc, arith, length-append}
+use Rattle.std.specs.Prelude.{◌≡◌, ℕ, ◌+◌, ◌*◌, ◌/◌, ◌%◌, ◌<◌, ◌≤◌, List, [], ◌∷◌, length, take, drop, slice_index, slice_index_or}
+use Rattle.std.proofs.Common.{ap, ◌∙◌, arith}
 use Rattle.std.proofs.Math.Nat.{div-div-eq-div-mul}
 use Rattle.std.specs.Simd.{first_chunks}
-use Rattle.std.proofs.lemmas.List.{drop_more, drop_all, set_at, replicate_more, drop-replicate, map_more, length-replicate}
-use Rattle.std.proofs.lemmas.List.Sums.{fold_push}
+use Rattle.std.proofs.lemmas.List.{drop_more, drop_all}
 use Rattle.digest.specs.SipHash.{word, bytes, k0, k1}
 
 -- a word is its lowest byte, and 256 times the word above
@@ -44,20 +43,6 @@ pub eight_bytes
 unfolding bytes
 eight_bytes x = simp div-div-eq-div-mul
 
--- eight zeros with `rest` written over the n at their front, and t over the last of them
-pub padded
-    : (rest : List ℕ) (n t : ℕ)
-    → n ≡ length rest
-    → length rest < 8
-    → slice_set (rest ++ drop n (replicate 8 0)) 7 t ≡ rest ++ replicate (7 - length rest) 0 ++ t ∷ []
-padded rest n t e h =
-    let zeros : List ℕ = replicate (7 - length rest) 0 in
-    let one_more : 8 - n ≡ 7 - length rest + 1 = omega arith in
-    let left : drop n (replicate 8 0) ≡ zeros ++ 0 ∷ [] =
-    drop-replicate n 8 0 ∙ ap (λ k. replicate k 0) one_more ∙ sym (replicate_more (7 - length rest) 0) in
-    let long : length (rest ++ zeros) ≡ 7 = simp (length-append, length-replicate) (omega arith) in
-    ap (λ z. set (rest ++ z) 7 t) left ∙ ap (λ z. set z 7 t) (sym (append_assoc rest zeros (0 ∷ []))) ∙ set_at (rest ++ zeros) 0 [] t 7 long
-
 -- the two words of a key
 pub halves
     : (key : List ℕ) (chunks : List (List ℕ))
@@ -68,11 +53,3 @@ unfolding k0 k1
 halves key chunks h e =
     let two : chunks ≡ take 8 key ∷ take 8 (drop 8 key) ∷ [] = e ∙ ap (λ n. first_chunks 8 (n / 8) key) h in
     (ap (λ l. word (slice_index_or l 0 [])) two, ap (λ l. word (slice_index_or l 1 [])) two)
-
--- one more element of a list goes into a fold over what a function makes of each
-pub folded_map_more
-    : {X Y Z : Type 0} (f : Z → Y → Z) (g : X → Y) (a : Z) (xs : List X) (i : ℕ) (d : X)
-    → i < length xs
-    → fold f a (map g (take (i + 1) xs)) ≡ f (fold f a (map g (take i xs))) (g (slice_index_or xs i d))
-folded_map_more f g a xs i d h =
-    ap (fold f a) (map_more g xs i d h) ∙ fold_push f a (map g (take i xs)) (g (slice_index_or xs i d))

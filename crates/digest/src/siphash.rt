@@ -84,6 +84,7 @@ fn last_word(rest: &[u8], len: usize) -> u64
     ensures { result ≡ word (rest.now ++ replicate (7 - length rest.now) 0 ++ (len % 256) ∷ []) }
 {
     let mut bytes = [0u8; 8];
+    // Written into a fixed block, as every word is made without the heap.
     bytes[0..rest.len()].copy_from_slice(rest);
     bytes[7] = (len % 256) as u8;
     word_of(bytes)

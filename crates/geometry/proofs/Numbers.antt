@@ -1,4 +1,4 @@
--- Laws of the tree's numbers, for 1 to 4096 data blocks. Assumes nothing.
+-- Laws of the tree's numbers, for 1 to 4096 data blocks.
 use Rattle.std.proofs.Common.{◌≡◌, ℕ, zero, suc, ◌+◌, ◌-◌, ◌*◌, ◌/◌, ◌%◌, ◌^◌, ◌<◌, ◌≤◌, max, sum_by, sym, refl, ap, ◌∙◌, subst, ⊎_elim, le_trans, pow-suc, le-div_iff_mul-le, div-mul-le_self, add-one, add-zero, arith, pow_pos, pow_mono, pow-add}
 use native.Mathlib.Nat.{div-div-eq-div-mul}
 use Rattle.std.specs.Int.{div_ceil}

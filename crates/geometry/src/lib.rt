@@ -24,10 +24,11 @@ pub struct Place {
 }
 
 impl Geometry {
+    // The numbers for so many blocks, or `None` where there is no such tree: one way to fail, as at the library's `NonZero::new`.
     pub fn new(blocks: usize) -> Option<Geometry>
         ensures { MatchOption result ((1 ≤ blocks) × (blocks ≤ 4096) → ⊥) (λ g. g.blocks ≡ blocks) }
     {
-        if 1 <= blocks && blocks <= MOST {
+        if (1..=MOST).contains(&blocks) {
             Some(Geometry { blocks })
         } else {
             None

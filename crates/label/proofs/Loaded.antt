@@ -1,4 +1,4 @@
--- One SIM more in the volume of a tray. Assumes nothing.
+-- One SIM more in the volume of a tray.
 use Rattle.std.proofs.Common.{◌≡◌, ℕ, suc, ◌+◌, ◌-◌, ◌<◌, ◌≤◌, List, [], ◌∷◌, ◌++◌, map, length, get_or, take, set, replicate, Ok, Err, Result, sym, ap, ◌∙◌, append_assoc, arith, length-append, MatchResult}
 use lib.ListN.{length-map, length-replicate}
 use Rattle.std.proofs.lemmas.List.{set_at, map_more, length-take-le}

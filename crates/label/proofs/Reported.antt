@@ -1,4 +1,4 @@
--- The report, put together. Assumes nothing.
+-- The report, put together.
 use Rattle.std.proofs.Common.{◌≡◌, ℕ, List, ◌++◌, length, ap, ◌∙◌, append_assoc}
 use Rattle.sim.specs.declared.Sim.{Sim}
 use Rattle.geometry.specs.Geometry.{levels, total}

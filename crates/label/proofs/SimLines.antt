@@ -1,4 +1,4 @@
--- The line of one SIM more. Assumes nothing.
+-- The line of one SIM more.
 use Rattle.std.proofs.Common.{◌≡◌, ℕ, zero, suc, ◌+◌, ◌<◌, List, [], ◌∷◌, ◌++◌, map, length, get_or, take, Some, sym, ap, ◌∙◌, append_assoc, append-nil, le_of_suc-le-suc, arith}
 use lib.ListN.{length-map}
 use Rattle.std.proofs.lemmas.List.{take_more, length-take-le, get_or-map}

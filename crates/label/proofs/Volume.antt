@@ -1,4 +1,4 @@
--- The volume of a tray, block by block. Assumes nothing.
+-- The volume of a tray, block by block.
 use Rattle.std.proofs.Common.{◌≡◌, ℕ, ◌-◌, ◌≤◌, List, map, length, take, replicate, arith, length-append}
 use lib.ListN.{length-map, length-replicate}
 use Rattle.std.proofs.lemmas.List.{take_at}

@@ -13,7 +13,7 @@ pub enum Header {
     Blocks,
 }
 
-// The word that a line begins with.
+// The word that a line begins with. Not a `Header` or `Sim`, which would name each word twice in every pattern.
 #[derive(Clone, Copy, PartialEq, Eq, Debug)]
 pub enum Keyword {
     Tray,
@@ -48,10 +48,10 @@ impl Number {
         ensures small { result < 2 ^ 48 }
     {
         match self {
-            Number::Tray => 4294967295,
+            Number::Tray => u32::MAX.into(),
             Number::Blocks => 4096,
-            Number::KeyIndex => 65535,
-            Number::Sequence => 281474976710655,
+            Number::KeyIndex => u16::MAX.into(),
+            Number::Sequence => (1 << 48) - 1,
         }
     }
 }

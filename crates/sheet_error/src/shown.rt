@@ -33,17 +33,17 @@ impl fmt::Display for Number {
     }
 }
 
-// The words of a line that begins with this one.
-impl fmt::Display for Keyword {
-    ghost output = { λ k. Some (form_text k) };
-
-    fn fmt<W: fmt::Write>(&self, f: &mut fmt::Formatter<W>) -> fmt::Result {
-        f.write_str(match self {
+impl Keyword {
+    // The words of the line that begins with it.
+    fn form(self) -> &'static str
+        ensures { result.now ≡ form_text self }
+    {
+        match self {
             Keyword::Tray => "tray NUMBER",
             Keyword::Hash => "hash siphash KEY",
             Keyword::Blocks => "blocks NUMBER",
             Keyword::Sim => "sim IDENTITY KEY-INDEX SEQUENCE-NUMBER",
-        })
+        }
     }
 }
 
@@ -56,7 +56,10 @@ impl fmt::Display for Cause {
             Cause::UnknownWord => {
                 f.write_str("the first word is none of tray, hash, blocks and sim")
             }
-            Cause::WordCount(what) => write!(f, "wrong number of words ({what})"),
+            Cause::WordCount(what) => {
+                let form = what.form();
+                write!(f, "wrong number of words ({form})")
+            }
             Cause::NotANumber(what) => write!(f, "{what} is not written in decimal digits"),
             Cause::OutOfRange(what) => {
                 let least = what.least();

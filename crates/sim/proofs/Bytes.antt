@@ -1,5 +1,6 @@
 -- Numbers as bytes, and bytes that are written over zeros.
 use Rattle.std.proofs.Common.{◌≡◌, ℕ, ◌+◌, ◌-◌, ◌/◌, ◌%◌, List, [], ◌∷◌, ◌++◌, length, replicate, arith}
+use Rattle.std.proofs.Math.Nat.{div-div-eq-div-mul}
 use borrow.Rule.Slice.PartMut.{put_mid}
 use Rattle.std.proofs.lemmas.List.{take_at, drop_at, drop-replicate}
 use Rattle.sim.specs.Block.{little_endian}
@@ -12,17 +13,7 @@ put_after front mid a k n long wide =
 
 -- what `to_le_bytes` gives of a `u32`, and of a `u64`
 pub little_4 : (n : ℕ) → n % 256 ∷ n / 256 % 256 ∷ n / 65536 % 256 ∷ n / 16777216 % 256 ∷ [] ≡ little_endian 4 n
-little_4 n =
-    let b : n / 65536 ≡ n / 256 / 256 = omega arith in
-    let c : n / 16777216 ≡ n / 256 / 256 / 256 = omega arith in
-    rw (b, c)
+little_4 n = simp div-div-eq-div-mul
 
 pub little_8 : (n : ℕ) → n % 256 ∷ n / 256 % 256 ∷ n / 65536 % 256 ∷ n / 16777216 % 256 ∷ n / 4294967296 % 256 ∷ n / 1099511627776 % 256 ∷ n / 281474976710656 % 256 ∷ n / 72057594037927936 % 256 ∷ [] ≡ little_endian 8 n
-little_8 n =
-    let b : n / 65536 ≡ n / 256 / 256 = omega arith in
-    let c : n / 16777216 ≡ n / 256 / 256 / 256 = omega arith in
-    let d : n / 4294967296 ≡ n / 256 / 256 / 256 / 256 = omega arith in
-    let e : n / 1099511627776 ≡ n / 256 / 256 / 256 / 256 / 256 = omega arith in
-    let f : n / 281474976710656 ≡ n / 256 / 256 / 256 / 256 / 256 / 256 = omega arith in
-    let g : n / 72057594037927936 ≡ n / 256 / 256 / 256 / 256 / 256 / 256 / 256 = omega arith in
-    rw (b, c, d, e, f, g)
+little_8 n = simp div-div-eq-div-mul

@@ -1,7 +1,8 @@
 -- Zeros, and the identity as text and as 20 bytes.
-use Rattle.std.proofs.Common.{◌≡◌, ℕ, zero, suc, ◌-◌, ◌<◌, ◌≤◌, Bool, true, false, ◌&&◌, eqb, leb, List, [], ◌∷◌, ◌++◌, length, drop, replicate, sym, refl, ap, ◌∙◌, arith}
+use Rattle.std.proofs.Common.{◌≡◌, ℕ, zero, suc, ◌-◌, ◌<◌, ◌≤◌, Bool, true, false, ◌&&◌, eqb, leb, List, ◌++◌, length, drop, replicate, sym, refl, ap, ◌∙◌, arith}
 use Rattle.std.proofs.lemmas.List.{drop_at, length-append, length-replicate}
-use Rattle.std.proofs.lemmas.Bool.{eq-eqb, ne_eqb, le-leb, lt-leb, and_left, and_right, and_from, and_parts, eqb-true}
+use Rattle.std.proofs.lemmas.Bool.{cond-true, eq-eqb, ne_eqb, le-leb, lt-leb, and_left, and_right, and_from, and_parts, eqb-true}
+use Rattle.std.proofs.lemmas.List.Folds.{prefix_len-append}
 use Rattle.std.specs.Char.{is_ascii_digit}
 use Rattle.sim.specs.Identity.{all_zero}
 use Rattle.sim.specs.Identity.{digit_run, is_padded, is_identity, padded}
@@ -12,14 +13,6 @@ and_on x y e = rw e
 pub all_zero_replicate : (n : ℕ) → all_zero (replicate n 0) ≡ true
 all_zero_replicate zero = refl
 all_zero_replicate (suc n) = and_from _ _ (eq-eqb 0 0 refl) (all_zero_replicate n)
-
-pub zeros_from : (xs : List ℕ) → all_zero xs ≡ true → xs ≡ replicate (length xs) 0
-zeros_from [] e = refl
-zeros_from (x ∷ xs) e =
-    let parts = and_parts _ _ e in
-    let first : x ≡ 0 = eqb-true x 0 parts.0 in
-    let rest = zeros_from xs parts.1 in
-    cc
 
 -- `n` counts the digits at the front of 20 bytes
 module _ (bs : List ℕ) (n : ℕ) (long : length bs ≡ 20) (e : n ≡ digit_run bs) where
@@ -39,14 +32,9 @@ pub padded_length : (bs : List ℕ) → is_padded bs ≡ true → length bs ≡ 
 unfolding is_padded
 padded_length bs h = eqb-true _ 20 (and_parts _ _ h).0
 
-run_cons : (c : ℕ) (cs rest : List ℕ) (b : Bool) → is_ascii_digit c ≡ b → digit_run (c ∷ cs) ≡ suc (length cs) → (digit_run cs ≡ length cs → digit_run (cs ++ rest) ≡ length cs) → digit_run (c ∷ (cs ++ rest)) ≡ suc (length cs)
-run_cons c cs rest true d e on = rw d (omega (arith, on (omega (arith, rw d at e))))
-run_cons c cs rest false d e on = absurd (omega (arith, rw d at e))
-
 -- all of a text are digits, and none follows
 pub run_append : (text rest : List ℕ) → digit_run text ≡ length text → digit_run rest ≡ 0 → digit_run (text ++ rest) ≡ length text
-run_append [] rest e z = z
-run_append (c ∷ cs) rest e z = run_cons c cs rest (is_ascii_digit c) refl e (λ more. run_append cs rest more z)
+run_append text rest e z = prefix_len-append is_ascii_digit text rest ∙ cond-true _ _ _ (eq-eqb _ _ e) ∙ omega (arith, z)
 
 run_zeros : (n : ℕ) → digit_run (replicate n 0) ≡ 0
 run_zeros zero = refl

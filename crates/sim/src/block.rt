@@ -6,7 +6,8 @@ use crate::Sim;
 use crate::identity::Identity;
 use crate::sequence::Sequence;
 
-// The first 32 bytes of a SIM's block: all that are not zero by rule.
+// The first 32 bytes of a SIM's block: all that are not zero by rule. Each part is copied to its own place, since a block is made in
+// fixed memory.
 fn head(sim: &Sim) -> [u8; 32]
     ensures { result ≡ sim_head sim.now }
 {

@@ -10,9 +10,9 @@ pub struct Sequence {
 
 impl Sequence {
     // The largest sequence number, 2^48 - 1.
-    pub const MAX: u64 = 281474976710655;
+    pub const MAX: u64 = (1 << 48) - 1;
 
-    // The sequence number `value`, or `None` where it has more than 48 bits.
+    // The sequence number `value`, or `None` where it has more than 48 bits: one way to fail, as at the library's `NonZero::new`.
     pub fn new(value: u64) -> Option<Sequence>
         ensures { MatchOption result (2 ^ 48 ≤ value) (λ s. (value < 2 ^ 48) × (s.value ≡ value)) }
     {

@@ -33,12 +33,9 @@ fn print_label(rt: &HostRuntime) -> Result<(), Stop> {
 
 fn run(rt: &HostRuntime) -> Result<(), Stop> {
     let mut words = env::args(rt)?.skip(1);
-    let Some(word) = words.next() else {
+    let (Some(word), None) = (words.next(), words.next()) else {
         return Err(Stop::Usage);
     };
-    if words.next().is_some() {
-        return Err(Stop::Usage);
-    }
     match word.as_str() {
         "label" => print_label(rt),
         "--help" => {

@@ -8,7 +8,7 @@ use std::alloc::AllocFailed;
 
 // Why a line is not taken.
 #[derive(Clone, Copy)]
-pub enum Fault {
+pub(crate) enum Fault {
     Refused(Cause),
     NoMemory,
 }

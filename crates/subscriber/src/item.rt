@@ -17,7 +17,7 @@ use sim::sequence::Sequence;
 
 // What a line says.
 #[derive(Clone, Copy)]
-pub enum Item {
+pub(crate) enum Item {
     // A blank line or a comment.
     Nothing,
     Tray(TrayNumber),
@@ -50,7 +50,7 @@ fn identity(word: &[u8]) -> Result<Identity, Cause>
     Identity::new(word).ok_or(Cause::IdentityDigit)
 }
 
-// What a line `tray` says.
+// What a line `tray` says. (`blocks_line` differs in the type that it makes, whose facts are proved where the value is made.)
 fn tray_line(word: &[u8]) -> Result<Item, Cause>
     ensures { with_ok plain result ≡ with_ok tray_is (number_in number.Tray word.now) }
 {

@@ -16,15 +16,14 @@ pub fn read_sheet(heap: Global, text: &[u8]) -> Result<Sheet, SheetError>
     ensures listed { IfOk result (λ s. Listed text.now (plain_sheet s)) }
 {
     let mut reading = Reading::new(heap);
-    let lines = Lines { text };
-    for (i, line) in lines.enumerate() {
+    for (i, line) in (Lines { text }).enumerate() {
         reading.take_line(line).map_err(|fault| fault.at(i + 1))?;
     }
-    // A match, since the check infers nothing of what a closure round `count` returns.
+    // A header that is missing is reported at the line after the last; only then are the lines counted.
     match reading.finish() {
         Ok(sheet) => Ok(sheet),
         Err(cause) => Err(SheetError::Bad {
-            line: lines.count() + 1,
+            line: Lines { text }.count() + 1,
             cause,
         }),
     }

@@ -22,7 +22,7 @@ struct Heading {
 
 // The headers and SIMs that were read so far.
 #[derive(Drop)]
-pub struct Reading {
+pub(crate) struct Reading {
     tray: Option<TrayNumber>,
     hash: Option<HashChoice>,
     blocks: Option<BlockCount>,

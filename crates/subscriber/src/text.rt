@@ -4,9 +4,9 @@ ghost use Rattle.std.specs.Iterator.{YieldsFirstRef, item_count};
 ghost use Rattle.subscriber.specs.Text.{blank, lines, words};
 
 // The lines that are left of a text, each without its newline.
-#[derive(Clone, Copy)]
-pub struct Lines<'a> {
-    pub text: &'a [u8],
+#[derive(Drop)]
+pub(crate) struct Lines<'a> {
+    pub(crate) text: &'a [u8],
     // So that a count of them fits.
     ghost few: { length (lines text.now) < 2 ^ 63 },
 }

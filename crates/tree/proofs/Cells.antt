@@ -1,4 +1,4 @@
--- Cells packed into blocks: what one changed cell changes. Assumes nothing.
+-- Cells packed into blocks: what one changed cell changes.
 use Rattle.std.proofs.Common.{◌≡◌, ℕ, zero, suc, ◌+◌, ◌-◌, ◌*◌, ◌/◌, ◌%◌, ◌<◌, ◌≤◌, min, List, [], ◌∷◌, ◌++◌, length, get_or, take, drop, set, replicate, sym, refl, ap, ◌∙◌, ⊎_elim, append_assoc, append-nil, le_of_suc-le-suc, arith, length-append, length-drop, length-set, length-take, drop-set-lt, drop_at}
 use lib.Seq.{take-set-lt, take-set-le, drop-set-add, take-append-le, drop-append-le, take-append-add, drop-append-add}
 use Rattle.std.proofs.lemmas.List.FromFn.{length-map-range_with_len, get_or-map-range_with_len}
@@ -84,6 +84,7 @@ sixteen_other cs n j d ne =
     (cases_lt n (16 * j))
 
 -- one cell replaced: one cell of one block is
+-- (no contract needs it yet: it is for one block written into a volume that has its tree)
 pub pack_set : (cs : List (List ℕ)) (n : ℕ) (d e : List ℕ) → Wide cs → length d ≡ 32 → n < length cs → pack (set cs n d) ≡ set (pack cs) (n / 16) (put_cell (get_or (pack cs) (n / 16) e) (n % 16) d)
 pack_set cs n d e w long h =
     let blocks : up (length (set cs n d)) ≡ up (length cs) = ap up (length-set cs n d) in

@@ -1,4 +1,4 @@
--- A block filled image by image, and a level block by block. Assumes nothing.
+-- A block filled image by image, and a level block by block.
 use Rattle.std.proofs.Common.{◌≡◌, ℕ, suc, ◌+◌, ◌-◌, ◌<◌, ◌≤◌, min, List, [], ◌∷◌, ◌++◌, map, length, get_or, take, set, replicate, sym, ap, ◌∙◌, append_assoc, append-nil, arith, length-append, length-set}
 use lib.ListN.{length-map}
 use Rattle.std.proofs.lemmas.List.Elements.{All-map}

@@ -1,4 +1,4 @@
--- The places of a data block lead up to the root. Assumes nothing.
+-- The places of a data block lead up to the root.
 use Rattle.std.proofs.Common.{◌≡◌, ℕ, zero, suc, ◌+◌, ◌-◌, ◌*◌, ◌/◌, ◌%◌, ◌^◌, ◌<◌, ◌≤◌, List, [], ◌∷◌, ◌++◌, map, length, get_or, take, drop, replicate, sym, ap, ◌∙◌, subst, ⊎_elim, le_of_suc-le-suc, pow-suc, div-one, add-one, arith, length-drop, length-take}
 use native.Mathlib.Nat.{div-div-eq-div-mul}
 use lib.ListN.{length-map}

@@ -2,31 +2,23 @@
 ghost use Rattle.std.specs.Prelude.{◌≡◌, ◌+◌, ◌^◌, ◌<◌, ◌≤◌, is_some, if◌then◌else◌, nat_lt};
 ghost use Rattle.vectors.specs.First.{first_fault};
 
-use std::fmt;
+use thiserror::Error;
 
 // Why a line does not count as one that agrees.
-#[derive(Clone, Copy)]
+#[derive(Clone, Copy, Debug, Error)]
 pub(crate) enum Problem {
+    #[error("disagrees")]
     Disagrees,
+    #[error("cannot be read")]
     Unreadable,
 }
 
 // A line, counted from 1, and what is wrong with it.
-#[derive(Clone, Copy)]
+#[derive(Clone, Copy, Debug, Error)]
+#[error("line {line} {problem}")]
 pub(crate) struct Fault {
     line: usize,
     problem: Problem,
-}
-
-impl fmt::Display for Fault {
-    fn fmt<W: fmt::Write>(&self, f: &mut fmt::Formatter<W>) -> fmt::Result {
-        let line = self.line;
-        let what = match self.problem {
-            Problem::Disagrees => "disagrees",
-            Problem::Unreadable => "cannot be read",
-        };
-        write!(f, "line {line} {what}")
-    }
 }
 
 // There is a fault just where not all agree.

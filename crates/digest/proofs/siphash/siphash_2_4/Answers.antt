@@ -1,15 +1,7 @@
-use Rattle.std.proofs.Common.{[]}
 use Rattle.std.proofs.lemmas.List.{take_all}
 use Rattle.std.proofs.lemmas.List.Sums.{fold_push}
-use Rattle.digest.specs.SipHash.{compress, initial, word, siphash_2_4, whole_words, last_word}
-use Rattle.digest.proofs.Words.{folded_map_more}
+use Rattle.digest.specs.SipHash.{compress, initial, siphash_2_4, whole_words, last_word}
 use Rattle.digest.proofs.siphash.siphash_2_4.Goals as goal
-
-pub loop-chunk-preserved : goal.loop-chunk-preserved
-loop-chunk-preserved c =
-    let more =
-    folded_map_more compress word (initial c.args.key.now) c.as_chunks.result.0.now c.loop-chunk.chunk-index [] c.loop-chunk-test.true in
-    cc
 
 pub returns : goal.returns
 unfolding siphash_2_4 whole_words last_word
