@@ -2,4 +2,3 @@ mod Volume
 mod Loaded
 mod Hex
 mod SimLines
-mod Reported

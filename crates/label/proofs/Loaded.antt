@@ -1,12 +1,7 @@
 -- One SIM more in the volume of a tray. Assumes nothing.
-use Rattle.std.proofs.Common.{◌≡◌, ℕ, suc, ◌+◌, ◌-◌, ◌<◌, ◌≤◌, List, [], ◌∷◌, ◌++◌, map, length, get_or, take, set, replicate, Ok, Err, Result, sym, ap, ◌∙◌, append_assoc, arith, length-append, MatchResult}
+use Rattle.std.proofs.Common.{◌≡◌, ℕ, suc, ◌+◌, ◌-◌, ◌<◌, ◌≤◌, List, [], ◌∷◌, ◌++◌, map, length, get_or, take, set, replicate, sym, ap, ◌∙◌, append_assoc, arith, length-append}
 use lib.ListN.{length-map, length-replicate}
 use Rattle.std.proofs.lemmas.List.{set_at, map_more, length-take-le}
-
--- what was answered where the error is out of the question
-pub not_refused : {T E : Type 0} (r : Result T E) (P : Type 0) (Q : E → Type 0) → MatchResult r (λ _. P) Q → ((e : E) → Q e → ⊥) → P
-not_refused (Ok x) P Q h no_way = h
-not_refused (Err e) P Q h no_way = absurd (no_way e h)
 
 module _ {X Y : Type 0} (f : X → Y) (zero : Y) (xs : List X) (n : ℕ) (room : length xs ≤ n) where
   -- the first k of xs, each under f, and zero in the other places

@@ -1,16 +1,21 @@
--- The volume of a tray, block by block. Assumes nothing.
-use Rattle.std.proofs.Common.{◌≡◌, ℕ, ◌-◌, ◌≤◌, List, map, length, take, replicate, arith, length-append}
+-- The volume of a sheet. Assumes nothing.
+use Rattle.std.proofs.Common.{◌≡◌, ◌-◌, map, length, take, replicate, vec_items, vec_len, arith, length-append}
 use lib.ListN.{length-map, length-replicate}
 use Rattle.std.proofs.lemmas.List.{take_at}
 use Rattle.sim.specs.Block.{sim_block}
-use Rattle.sim.specs.declared.Sim.{Sim}
+use Rattle.subscriber.specs.declared.sheet.Sheet.{Sheet}
 use Rattle.tree.specs.Layout.{zero_block}
 use Rattle.label.specs.Label.{volume_of}
 
-module _ (sims : List Sim) (blocks : ℕ) (room : length sims ≤ blocks) where
-  pub volume_length : length (volume_of sims blocks) ≡ blocks
-  volume_length = omega (arith, length-append (map sim_block sims) (replicate (blocks - length sims) zero_block), length-map sims sim_block, length-replicate (blocks - length sims) zero_block)
+module _ (s : Sheet) where
+  pub volume_length : length (volume_of (vec_items s.sims) s.blocks.value) ≡ s.blocks.value
+  volume_length =
+      let sims = vec_items s.sims in
+      let rest = s.blocks.value - length sims in
+      omega (arith, s.few, s.sims.ok.0, length-append (map sim_block sims) (replicate rest zero_block), length-map sims sim_block, length-replicate rest zero_block)
 
   -- its first blocks hold the SIMs
-  pub volume_sims : take (length sims) (volume_of sims blocks) ≡ map sim_block sims
-  volume_sims = take_at (map sim_block sims) (replicate (blocks - length sims) zero_block) (length sims) (length-map sims sim_block)
+  pub volume_sims : take (vec_len s.sims) (volume_of (vec_items s.sims) s.blocks.value) ≡ map sim_block (vec_items s.sims)
+  volume_sims =
+      let sims = vec_items s.sims in
+      take_at (map sim_block sims) (replicate (s.blocks.value - length sims) zero_block) (vec_len s.sims) (omega (arith, length-map sims sim_block, s.sims.ok.0))
