@@ -1,4 +1,3 @@
 mod Volume
-mod Loaded
 mod Hex
 mod SimLines
