@@ -1,3 +1,2 @@
-mod Volume
 mod Hex
 mod SimLines

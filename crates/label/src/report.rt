@@ -24,7 +24,7 @@ struct Label {
     root: [u8; 32],
 }
 
-// Two digits to a byte.
+// Two digits to a byte. It takes a slice, since the check knows no bound of the bytes of an array in a struct.
 #[tactic(auto, using(crate::proofs::Hex::hex_is))]
 fn digits(heap: Global, bytes: &[u8]) -> Result<String, AllocError>
     ensures { IfOk result (λ s. string_bytes s ≡ hex bytes.now) }
