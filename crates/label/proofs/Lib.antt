@@ -1,5 +1,2 @@
-mod Volume
-mod Loaded
 mod Hex
 mod SimLines
-mod Reported

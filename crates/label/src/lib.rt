@@ -3,14 +3,13 @@
 
 ghost use Rattle.label.specs.Label.{Labelled};
 
-use crate::report::report;
+use crate::report::Report;
 use digest::siphash::SipHash;
 use std::alloc::Global;
 use subscriber::cause::SheetError;
 use subscriber::read::read_sheet;
 use subscriber::tray::HashChoice;
 
-mod lines;
 mod load;
 mod report;
 
@@ -19,7 +18,8 @@ pub fn label(heap: Global, text: &[u8]) -> Result<String, SheetError>
     ensures { Labelled text.now result }
 {
     let sheet = read_sheet(heap, text)?;
-    match sheet.hash {
-        HashChoice::SipHash { key } => Ok(report(heap, &sheet, &SipHash::new(key))?),
-    }
+    let report = match sheet.hash {
+        HashChoice::SipHash { key } => Report::over(heap, &sheet, &SipHash::new(key))?,
+    };
+    Ok(report.into_text())
 }

@@ -1,20 +1,27 @@
 // The volume of a tray.
-ghost use Rattle.std.specs.Prelude.{◌≡◌, ◌≤◌, length, IfOk};
+ghost use Rattle.std.specs.Prelude.{◌≡◌, map, IfOk};
 ghost use Rattle.label.specs.Label.{volume_of};
+ghost use Rattle.sim.specs.Block.{sim_block};
 
-use geometry::Geometry;
+use sim::Sim;
+use sim::block::encode;
 use std::alloc::{AllocError, Global};
-use subscriber::{Sim, encode};
+use subscriber::sheet::Sheet;
 use tree::contents::Contents;
 
-// SIM k stands in block k, and zeros in every block after the last SIM.
-pub(crate) fn load(heap: Global, geometry: Geometry, sims: &[Sim]) -> Result<Contents, AllocError>
-    requires { length sims.now ≤ geometry.blocks }
-    ensures { IfOk result (λ c. c.blocks.items ≡ volume_of sims.now geometry.blocks) }
+// The blocks of SIMs, in their order.
+fn sim_blocks(heap: Global, sims: &[Sim]) -> Result<Vec<[u8; 512]>, AllocError>
+    ensures { IfOk result (λ v. v.items ≡ map sim_block sims.now) }
 {
-    let mut contents = Contents::zeros(heap, geometry)?;
-    for (k, sim) in sims.iter().enumerate() {
-        contents.put(k, &encode(sim)).unwrap();
-    }
-    Ok(contents)
+    sims.iter().map(encode).collect(heap)
+}
+
+// SIM k stands in block k, and zeros in every block after the last SIM.
+#[tactic(auto, unfolding(tree::specs::Layout::zero_block))]
+pub(crate) fn load(heap: Global, sheet: &Sheet) -> Result<Contents, AllocError>
+    ensures { IfOk result (λ c. c.blocks.items ≡ volume_of sheet.now.sims.items sheet.now.blocks.value) }
+{
+    let mut blocks = sim_blocks(heap, &sheet.sims)?;
+    blocks.resize(usize::from(sheet.blocks.value), [0; 512])?;
+    Ok(Contents { blocks })
 }

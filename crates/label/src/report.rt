@@ -1,49 +1,129 @@
-// The report of a label.
-ghost use Rattle.std.specs.Prelude.{◌≡◌, ◌++◌, IfOk, string_bytes, OnOk};
+// The report of a label: a head line, a line for each SIM, a line on the tree, and the line of the label itself. What adds a line
+// fails only where memory runs out.
+ghost use Rattle.std.specs.Prelude.{◌≡◌, List, [], ◌++◌, map, length, IfOk, OnOk, string_bytes};
+ghost use Rattle.geometry.specs.Geometry.{levels, total};
 ghost use Rattle.label.specs.Label.{volume_of};
-ghost use Rattle.label.specs.Report.{report_with};
+ghost use Rattle.label.specs.Report.{head_line, sim_line, sim_lines, tree_line, hex, label_line, report_with};
+ghost use Rattle.sim.specs.Block.{sim_block};
 ghost use Rattle.tree.specs.Layout.{root_of};
 
-use crate::lines::{write_head, write_label, write_sims, write_tree};
 use crate::load::load;
 use digest::hash::Hash;
 use geometry::Geometry;
+use sim::Sim;
+use sim::block::decode;
 use std::alloc::{AllocError, Global};
+use std::marker::Model;
 use subscriber::sheet::Sheet;
-use tree::contents::Contents;
 use tree::layout::Tree;
 
-// The whole report. The SIMs are read again from the blocks that the tree lies over.
-fn write_report(
-    heap: Global,
-    text: &mut String,
-    sheet: &Sheet,
-    contents: &Contents,
+// What names the contents of a tray: the kind of the hash, and the root of the tree under it.
+#[derive(Clone, Copy)]
+struct Label {
     kind: u8,
-    root: &[u8; 32],
-) -> Result<(), AllocError>
-    requires { contents.now.blocks.items ≡ volume_of sheet.now.sims.items sheet.now.blocks.value }
-    ensures { OnOk result (string_bytes text.new ≡ string_bytes text.old ++ report_with sheet.now.tray.value sheet.now.blocks.value sheet.now.sims.items kind root.now) }
-{
-    let sims = sheet.sims.len();
-    write_head(text, sheet.tray.value, sims, sheet.blocks.value)?;
-    let (held, _) = contents.blocks.as_slice().split_at(sims);
-    write_sims(text, held)?;
-    let geometry = contents.geometry();
-    write_tree(text, geometry.levels(), geometry.total())?;
-    write_label(heap, text, kind, root)
+    root: [u8; 32],
 }
 
-// The report of a tray under a hash.
-pub(crate) fn report<H: Hash>(heap: Global, sheet: &Sheet, hash: &H) -> Result<String, AllocError>
-    ensures { IfOk result (λ s. string_bytes s ≡ report_with sheet.now.tray.value sheet.now.blocks.value sheet.now.sims.items H.Hash.KIND (root_of (H.Hash.image hash.now) (volume_of sheet.now.sims.items sheet.now.blocks.value))) }
+// Two digits to a byte. It takes a slice, since the check knows no bound of the bytes of an array in a struct.
+#[tactic(auto, using(crate::proofs::Hex::hex_is))]
+fn digits(heap: Global, bytes: &[u8]) -> Result<String, AllocError>
+    ensures { IfOk result (λ s. string_bytes s ≡ hex bytes.now) }
 {
-    let geometry = Geometry {
-        blocks: usize::from(sheet.blocks.value),
-    };
-    let contents = load(heap, geometry, sheet.sims.as_slice())?;
-    let tree = Tree::over(heap, hash, &contents)?;
-    let mut text = String::new(heap);
-    write_report(heap, &mut text, sheet, &contents, H::KIND, &tree.root)?;
-    Ok(text)
+    hex::encode(heap, bytes)
+}
+
+// A report as far as it is written, seen as its bytes.
+#[derive(Drop)]
+pub(crate) struct Report {
+    text: String,
+}
+
+impl Model for Report {
+    ghost use Rattle.std.specs.Prelude.{ℕ, List, string_bytes};
+
+    ghost Value = { List ℕ };
+
+    ghost view = { λ r. string_bytes r.text };
+}
+
+impl Report {
+    // The whole report of a tray under a hash. The SIMs are read again from the blocks that the tree lies over.
+    pub(crate) fn over<H: Hash>(heap: Global, sheet: &Sheet, hash: &H) -> Result<Report, AllocError>
+        ensures { IfOk result (λ r. r ≡ report_with sheet.now.tray.value sheet.now.blocks.value sheet.now.sims.items H.Hash.KIND (root_of (H.Hash.image hash.now) (volume_of sheet.now.sims.items sheet.now.blocks.value))) }
+    {
+        let contents = load(heap, sheet)?;
+        let label = Label {
+            kind: H::KIND,
+            root: Tree::over(heap, hash, &contents)?.root,
+        };
+        let mut report = Report::new(heap);
+        report.head(sheet)?;
+        report.sims(&contents.blocks[..sheet.sims.len()])?;
+        report.tree(contents.geometry())?;
+        report.label(heap, label)?;
+        Ok(report)
+    }
+
+    fn new(heap: Global) -> Report
+        ensures { result ≡ [] }
+    {
+        Report {
+            text: String::new(heap),
+        }
+    }
+
+    fn head(&mut self, sheet: &Sheet) -> Result<(), AllocError>
+        ensures { OnOk result (self.new ≡ self.old ++ head_line sheet.now.tray.value (length sheet.now.sims.items) sheet.now.blocks.value) }
+    {
+        let tray = sheet.tray.value;
+        let sims = sheet.sims.len();
+        let blocks = sheet.blocks.value;
+        writeln!(self.text, "tray {tray}: SIMs {sims}, blocks {blocks}")
+    }
+
+    // A line for each block that holds a SIM, read from the block itself.
+    fn sims(&mut self, blocks: &[[u8; 512]]) -> Result<(), AllocError>
+        ensures { OnOk result ((sims : List Sim) → map sim_block sims ≡ blocks.now → self.new ≡ self.old ++ sim_lines 0 sims) }
+    {
+        for (k, block) in blocks.iter().enumerate() {
+            if let Some(sim) = decode(block) {
+                self.sim(k, &sim)?;
+            }
+        }
+        Ok(())
+    }
+
+    fn sim(&mut self, block: usize, sim: &Sim) -> Result<(), AllocError>
+        ensures { OnOk result (self.new ≡ self.old ++ sim_line block sim.now) }
+    {
+        let identity = sim.identity;
+        let key = sim.key;
+        let sequence = sim.sequence.value;
+        writeln!(
+            self.text,
+            "block {block}: identity {identity}, key {key}, sequence {sequence}"
+        )
+    }
+
+    fn tree(&mut self, geometry: Geometry) -> Result<(), AllocError>
+        ensures { OnOk result (self.new ≡ self.old ++ tree_line (levels geometry.blocks) (total geometry.blocks)) }
+    {
+        let levels = geometry.levels();
+        let blocks = geometry.total();
+        writeln!(self.text, "tree: levels {levels}, blocks {blocks}")
+    }
+
+    fn label(&mut self, heap: Global, label: Label) -> Result<(), AllocError>
+        ensures { OnOk result (self.new ≡ self.old ++ label_line label.kind label.root) }
+    {
+        let kind = label.kind;
+        let root = digits(heap, &label.root)?;
+        writeln!(self.text, "label: kind {kind}, root {root}")
+    }
+
+    pub(crate) fn into_text(self) -> String
+        ensures { string_bytes result ≡ self }
+    {
+        self.text
+    }
 }
