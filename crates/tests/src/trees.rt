@@ -1,6 +1,7 @@
 // Worked out by hand from the rules in docs/TREE.md.
 use geometry::{Geometry, Place};
 use std::test::Fail;
+use tree::contents::{Contents, PastEnd};
 
 #[test]
 fn sizes(rt: HostRuntime) -> Result<(), Fail> {
@@ -47,5 +48,22 @@ fn places(rt: HostRuntime) -> Result<(), Fail> {
     );
     assert_eq!(rt; geometry.place(3, 256), None);
     assert_eq!(rt; geometry.place(0, 257), None);
+    Ok(())
+}
+
+#[test]
+fn contents_of_three_blocks(rt: HostRuntime) -> Result<(), Fail> {
+    let Some(geometry) = Geometry::new(3) else {
+        return Err(Fail::new("3 is refused"));
+    };
+    let mut contents = Contents::zeros(rt.alloc(), geometry)?;
+    let block = [7; 512];
+    assert_eq!(rt; contents.put(1, &block), Ok(()));
+    assert_eq!(rt; contents.put(3, &block), Err(PastEnd { at: 3 }));
+    assert_eq!(rt;
+        contents.blocks.as_slice(),
+        [[0; 512], block, [0; 512]].as_slice()
+    );
+    assert_eq!(rt; contents.geometry().blocks, 3);
     Ok(())
 }
