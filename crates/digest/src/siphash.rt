@@ -86,6 +86,7 @@ fn last_word(rest: &[u8], len: usize) -> u64
     let mut bytes = [0u8; 8];
     // Written into a fixed block, as every word is made without the heap.
     bytes[0..rest.len()].copy_from_slice(rest);
+    // The cast is proved to lose nothing; a conversion that may fail would add a case that never comes.
     bytes[7] = (len % 256) as u8;
     word_of(bytes)
 }
@@ -136,6 +137,7 @@ impl Hash for SipHash {
     ghost cell = { unfold sip_cell in λ h block. bytes_cell 8 24 (siphash_2_4 h.key block) refl };
 
     fn image_of(&self, block: &[u8; 512]) -> [u8; 32] {
+        // A fixed block, without the heap.
         let mut cell = [0u8; 32];
         cell[0..8].copy_from_slice(&siphash_2_4(&self.key, block).to_le_bytes());
         cell

@@ -7,7 +7,8 @@ ghost use Rattle.geometry.specs.Geometry.{width, levels, above, start, total, pl
 // The most data blocks that a volume has.
 pub const MOST: usize = 4096;
 
-// The numbers of a tree over 1 to 4096 data blocks; no other can be made.
+// The numbers of a tree over 1 to 4096 data blocks; no other can be made. Whether a level is there is asked at each call, since its
+// number comes from the caller.
 #[derive(Clone, Copy)]
 pub struct Geometry {
     // The number N of data blocks.
@@ -40,6 +41,7 @@ impl Geometry {
     pub fn levels(&self) -> usize
         ensures { result ≡ levels self.now.blocks }
     {
+        // The cast is proved to lose nothing.
         let bits = (usize::BITS - (self.blocks - 1).leading_zeros()) as usize;
         bits.div_ceil(4).max(1)
     }

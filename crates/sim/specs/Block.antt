@@ -2,7 +2,7 @@
 use Rattle.std.specs.Prelude.{ℕ, zero, suc, ◌/◌, ◌%◌, List, [], ◌∷◌, ◌++◌, replicate}
 use Rattle.sim.specs.declared.Sim.{Sim}
 
--- a number in so many bytes, the lowest first
+-- a number in so many bytes, the lowest first (what SipHash calls `bytes`; neither crate stands on the other)
 abbrev pub little_endian : ℕ → ℕ → List ℕ
 little_endian zero n = []
 little_endian (suc k) n = n % 256 ∷ little_endian k (n / 256)

@@ -27,7 +27,8 @@ pub struct Identity {
 }
 
 impl Identity {
-    // The identity whose digits are `text`, or `None` where that is not 6 to 20 ASCII digits.
+    // The identity whose digits are `text`, or `None` where that is not 6 to 20 ASCII digits: one way to fail, as at the library's
+    // `NonZero::new`. The digits are copied into a fixed block, without the heap.
     pub fn new(text: &[u8]) -> Option<Identity>
         ensures { MatchOption result (is_identity text.now ≡ false) (λ i. (is_identity text.now ≡ true) × (i.digits ≡ padded text.now)) }
     {

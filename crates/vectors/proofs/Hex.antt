@@ -8,7 +8,7 @@ use Rattle.hex.specs.Hex.{hex_digit_value, digit_or_error, pair_value, decode_pa
 use Rattle.hex.specs.declared.error.FromHexError.{FromHexError}
 use Rattle.vectors.specs.Hex.{hex_digit, hex_joined, before, hex_pairs, unhex}
 
--- a digit has one value
+-- a digit has one value (the reader of a sheet has the like for its own words; neither crate stands on the other)
 digit_is : (c : ℕ) → hex_digit c ≡ hex_digit_value c
 digit_is c = grind (arith, nat_tests)
 
