@@ -7,8 +7,8 @@ ghost use Rattle.geometry.specs.Geometry.{width, levels, above, start, total, pl
 // The most data blocks that a volume has.
 pub const MOST: usize = 4096;
 
-// The numbers of a tree over 1 to 4096 data blocks; no other can be made. Whether a level is there is asked at each call, since its
-// number comes from the caller.
+// The numbers of a tree over 1 to 4096 data blocks; no other can be made. A level is a plain number that each call looks at: a type of
+// its own would have to carry these numbers along, and read no plainer.
 #[derive(Clone, Copy)]
 pub struct Geometry {
     // The number N of data blocks.

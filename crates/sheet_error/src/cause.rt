@@ -89,7 +89,7 @@ pub enum SheetError {
     NoMemory,
 }
 
-// Want of memory, from a call that gives nothing back.
+// Want of memory, from a call that gives nothing back. Written out, since contracts name what it gives and a derive names nothing.
 impl From<AllocError> for SheetError {
     ghost from_gives = { λ _ r. r ≡ error.NoMemory };
 

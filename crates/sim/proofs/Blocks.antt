@@ -59,7 +59,7 @@ module _ (s : Sim) (block : List ℕ) (e : sim_block s ≡ block) where
       let own : bytes ≡ little_endian 8 s.sequence.value = cut ∙ ap (take 8) (past ∙ ap (drop 4) (at ∙ block_tail)) in
       rw own (omega (arith, s.sequence.small))
 
--- no two SIMs have one block
+-- no two SIMs have one block: docs/SHEET.md says so, and `decode`'s contract gives it too
 pub same_block : (s t : Sim) → sim_block s ≡ sim_block t → s ≡ t
 same_block s t e =
     let b = sim_block t in

@@ -25,6 +25,7 @@ impl Fault {
     }
 }
 
+// Both are written out, since contracts name what they give and a derive names nothing.
 impl From<Cause> for Fault {
     ghost from_gives = { λ c r. r ≡ fault.Refused c };
 

@@ -39,7 +39,7 @@ fn keyword(word: &[u8]) -> Option<Keyword>
     }
 }
 
-// An identity, or what is wrong with it.
+// An identity, or what is wrong with it. The length is looked at here, since the causes of a sheet are not known to `sim`.
 #[tactic(auto, unfolding(crate::specs::Items::identity_in, sim::specs::Identity::is_identity))]
 fn identity(word: &[u8]) -> Result<Identity, Cause>
     ensures { with_ok (λ i. i.digits) result ≡ identity_in word.now }

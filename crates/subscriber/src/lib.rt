@@ -1,5 +1,5 @@
 // The SIMs of a tray: one SIM as one 512-byte block and back, and the sheet that lists them. The SIM itself and its block stand in
-// the crate `sim`, and are passed on here.
+// the crate `sim`, and why a sheet is refused in `sheet_error`; both are passed on here.
 #![tactic(auto)]
 
 pub mod block_count;

@@ -22,7 +22,8 @@ fn decimal(digits: &[u8]) -> Option<u64>
     str::from_utf8(digits).unwrap().parse().ok()
 }
 
-// A word as a number of this kind, whose range shows that a caller's `as` loses nothing.
+// A word as a number of this kind, whose range shows that a caller's `as` loses nothing; a conversion that may fail would add a refusal
+// that never comes.
 #[tactic(auto, unfolding(crate::specs::Number::number_in))]
 pub(crate) fn number(word: &[u8], what: Number) -> Result<u64, Cause>
     ensures value { result ≡ number_in what word.now }

@@ -28,6 +28,7 @@ fn fill_level<H: Hash>(hash: &H, below: &[[u8; 512]], level: &mut [[u8; 512]])
     requires { length level.old ≡ up (length below.now) }
     ensures { level.new ≡ pack (map (H.Hash.image hash.now) below.now) }
 {
+    // By number, as in `fill_block`.
     for (j, sixteen) in below.chunks(16).enumerate() {
         fill_block(hash, sixteen, &mut level[j]);
     }
