@@ -172,13 +172,12 @@ pub total_least : (n : ℕ) → 1 ≤ n → n ≤ 4096 → 1 ≤ total n
 total_least n least most = omega (arith, total_split n least most)
 
 -- each level takes four bits of the block number
-pub place_block : (n l k : ℕ) → (place n l k).0 ≡ start n l + k / 2 ^ (4 * l) / 16
+pub place_shifted : (n l k : ℕ) → place n l k ≡ (start n l + k / 2 ^ (4 * l) / 16, k / 2 ^ (4 * l) % 16)
 unfolding place
-place_block n l k = ap (λ b. start n l + b) (ap (λ p. k / p) (pow-suc 16 l) ∙ sym (div-div-eq-div-mul k (16 ^ l) 16) ∙ ap (λ p. k / p / 16) (sym (sixteens l)))
-
-pub place_cell : (n l k : ℕ) → (place n l k).1 ≡ k / 2 ^ (4 * l) % 16
-unfolding place
-place_cell n l k = ap (λ p. k / p % 16) (sym (sixteens l))
+place_shifted n l k =
+    let e = sixteens l in
+    let far : k / 16 ^ suc l ≡ k / 2 ^ (4 * l) / 16 = ap (λ p. k / p) (pow-suc 16 l) ∙ sym (div-div-eq-div-mul k (16 ^ l) 16) ∙ ap (λ p. k / p / 16) (sym e) in
+    (λ i. (start n l + far i, k / sym e i % 16))
 
 -- the block of level l that has a data block's place is one of the level's
 div_mono : (m n l : ℕ) → m ≤ n → m / 16 ^ l ≤ n / 16 ^ l

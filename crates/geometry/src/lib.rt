@@ -17,13 +17,6 @@ pub struct Geometry {
     ghost most: { blocks ≤ 4096 },
 }
 
-// Where an image stands: the tree block's number on the tree device, and the cell in it.
-#[derive(Clone, Copy, Debug, PartialEq, Eq)]
-pub struct Place {
-    pub block: usize,
-    pub cell: usize,
-}
-
 impl Geometry {
     // The numbers for so many blocks, or `None` where there is no such tree: one way to fail, as at the library's `NonZero::new`.
     pub fn new(blocks: usize) -> Option<Geometry>
@@ -75,19 +68,17 @@ impl Geometry {
         self.upper_blocks(0)
     }
 
-    // The place of data block `block` at a level.
-    #[tactic(auto, using(crate::proofs::Numbers::levels_most, crate::proofs::Numbers::above_most, crate::proofs::Numbers::place_block, crate::proofs::Numbers::place_cell, std::proofs::lemmas::Nat::shr_le))]
-    pub fn place(&self, level: usize, block: usize) -> Option<Place>
-        ensures { MatchOption result ((level < levels self.now.blocks) × (block < self.now.blocks) → ⊥) (λ p. (level < levels self.now.blocks) × (block < self.now.blocks) × (p.block ≡ (place self.now.blocks level block).0) × (p.cell ≡ (place self.now.blocks level block).1)) }
+    // The place of data block `block` at a level, where the image of what it has below stands: the tree block's number on the tree
+    // device, and the cell in it. It is a pair, as its definition is; both halves are taken together.
+    #[tactic(auto, using(crate::proofs::Numbers::levels_most, crate::proofs::Numbers::above_most, crate::proofs::Numbers::place_shifted, std::proofs::lemmas::Nat::shr_le))]
+    pub fn place(&self, level: usize, block: usize) -> Option<(usize, usize)>
+        ensures { MatchOption result ((level < levels self.now.blocks) × (block < self.now.blocks) → ⊥) (λ p. (level < levels self.now.blocks) × (block < self.now.blocks) × (p ≡ place self.now.blocks level block)) }
     {
         if level < self.levels() && block < self.blocks {
             let start = self.upper_blocks(level + 1);
             // The cell counts within the level; each level below it took four bits of the block number.
             let cell = block >> (4 * level);
-            Some(Place {
-                block: start + cell / 16,
-                cell: cell % 16,
-            })
+            Some((start + cell / 16, cell % 16))
         } else {
             None
         }

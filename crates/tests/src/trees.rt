@@ -1,7 +1,9 @@
-// Worked out by hand from the rules in docs/TREE.md.
-use geometry::{Geometry, Place};
+// Worked out by hand from the rules in docs/TREE.md, and by libsodium where images are compared.
+use digest::siphash::SipHash;
+use geometry::Geometry;
 use std::test::Fail;
 use tree::contents::{Contents, PastEnd};
+use tree::layout::Tree;
 
 #[test]
 fn sizes(rt: HostRuntime) -> Result<(), Fail> {
@@ -36,18 +38,44 @@ fn places(rt: HostRuntime) -> Result<(), Fail> {
     let Some(geometry) = Geometry::new(257) else {
         return Err(Fail::new("257 is refused"));
     };
-    assert_eq!(rt; geometry.place(0, 256), Some(Place { block: 19, cell: 0 }));
-    assert_eq!(rt; geometry.place(1, 256), Some(Place { block: 2, cell: 0 }));
-    assert_eq!(rt; geometry.place(2, 256), Some(Place { block: 0, cell: 1 }));
-    assert_eq!(rt;
-        geometry.place(0, 255),
-        Some(Place {
-            block: 18,
-            cell: 15
-        })
-    );
+    assert_eq!(rt; geometry.place(0, 256), Some((19, 0)));
+    assert_eq!(rt; geometry.place(1, 256), Some((2, 0)));
+    assert_eq!(rt; geometry.place(2, 256), Some((0, 1)));
+    assert_eq!(rt; geometry.place(0, 255), Some((18, 15)));
     assert_eq!(rt; geometry.place(3, 256), None);
     assert_eq!(rt; geometry.place(0, 257), None);
+    Ok(())
+}
+
+// The images on the way up from data block 256 stand at its places, in the tree block and in the cell.
+#[test]
+fn images_at_their_places(rt: HostRuntime) -> Result<(), Fail> {
+    let Some(geometry) = Geometry::new(257) else {
+        return Err(Fail::new("257 is refused"));
+    };
+    let mut contents = Contents::zeros(rt.alloc(), geometry)?;
+    assert_eq!(rt; contents.put(256, &[7; 512]), Ok(()));
+    let hash = SipHash::new([0, 1, 2, 3, 4, 5, 6, 7, 8, 9, 10, 11, 12, 13, 14, 15]);
+    let tree = Tree::over(rt.alloc(), &hash, &contents)?;
+    let images = [
+        [126, 112, 24, 170, 85, 61, 153, 81],
+        [39, 210, 144, 113, 176, 212, 248, 77],
+        [97, 165, 69, 175, 15, 125, 148, 67],
+    ];
+    for (level, image) in images.iter().enumerate() {
+        let Some((number, cell)) = geometry.place(level, 256) else {
+            return Err(Fail::new("a block that is there has no place"));
+        };
+        let Some(block) = tree.blocks.get(number) else {
+            return Err(Fail::new("a place is past the end"));
+        };
+        let (cells, _) = block.as_chunks::<32>();
+        let Some(found) = cells.get(cell) else {
+            return Err(Fail::new("a tree block has too few cells"));
+        };
+        assert_eq!(rt; &found[..8], image.as_slice());
+        assert_eq!(rt; &found[8..], [0; 24].as_slice());
+    }
     Ok(())
 }
 
