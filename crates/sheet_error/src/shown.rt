@@ -91,5 +91,5 @@ impl fmt::Display for SheetError {
     }
 }
 
-// So that `?` turns it into an `anyhow::Error`.
+// For callers that take any error.
 impl Error for SheetError {}

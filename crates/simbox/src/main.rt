@@ -31,8 +31,16 @@ fn print_label(rt: &HostRuntime) -> Result<(), Stop> {
     Ok(())
 }
 
+// Why the arguments cannot be had. One that is not UTF-8 is no word of this program, as any other that it does not know.
+fn no_words(error: io::Error) -> Stop {
+    match error.kind() {
+        io::ErrorKind::InvalidData => Stop::Usage,
+        _ => Stop::Io(error),
+    }
+}
+
 fn run(rt: &HostRuntime) -> Result<(), Stop> {
-    let mut words = env::args(rt)?.skip(1);
+    let mut words = env::args(rt).map_err(no_words)?.skip(1);
     let (Some(word), None) = (words.next(), words.next()) else {
         return Err(Stop::Usage);
     };

@@ -29,15 +29,15 @@ impl Fault {
 impl From<Cause> for Fault {
     ghost from_gives = { λ c r. r ≡ fault.Refused c };
 
-    fn from(cause: Cause) -> Fault {
-        Fault::Refused(cause)
+    fn from(cause: Cause) -> Self {
+        Self::Refused(cause)
     }
 }
 
 impl<T: Drop> From<AllocFailed<T>> for Fault {
     ghost from_gives = { λ _ r. r ≡ fault.NoMemory };
 
-    fn from(_refused: AllocFailed<T>) -> Fault {
-        Fault::NoMemory
+    fn from(_refused: AllocFailed<T>) -> Self {
+        Self::NoMemory
     }
 }

@@ -4,6 +4,8 @@
 #[cfg(test)]
 mod digests;
 #[cfg(test)]
+mod labels;
+#[cfg(test)]
 mod sheets;
 #[cfg(test)]
 mod sims;

@@ -7,7 +7,7 @@ use subscriber::read::read_sheet;
 use subscriber::tray::HashChoice;
 
 // A bad sheet, and the line that its reader sees.
-const REFUSALS: [(&str, &str); 36] = [
+const REFUSALS: [(&str, &str); 37] = [
     (
         "tray 1\nslot 2\n",
         "line 2: the first word is none of tray, hash, blocks and sim",
@@ -91,6 +91,10 @@ const REFUSALS: [(&str, &str); 36] = [
     ),
     (
         "hash siphash 000102030405060708090a0b0c0d0e0",
+        "line 1: key is not 32 hexadecimal digits long",
+    ),
+    (
+        "hash siphash 000102030405060708090a0b0c0d0e0f0",
         "line 1: key is not 32 hexadecimal digits long",
     ),
     (
