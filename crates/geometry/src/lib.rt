@@ -68,8 +68,8 @@ impl Geometry {
         self.upper_blocks(0)
     }
 
-    // The place of data block `block` at a level, where the image of what it has below stands: the tree block's number on the tree
-    // device, and the cell in it. It is a pair, as its definition is; both halves are taken together.
+    // The place of data block `block` at a level: the tree block's number on the tree device, and the cell in it. A pair, as its
+    // definition is, so that one equation says both.
     #[tactic(auto, using(crate::proofs::Numbers::levels_most, crate::proofs::Numbers::above_most, crate::proofs::Numbers::place_shifted, std::proofs::lemmas::Nat::shr_le))]
     pub fn place(&self, level: usize, block: usize) -> Option<(usize, usize)>
         ensures { MatchOption result ((level < levels self.now.blocks) × (block < self.now.blocks) → ⊥) (λ p. (level < levels self.now.blocks) × (block < self.now.blocks) × (p ≡ place self.now.blocks level block)) }
