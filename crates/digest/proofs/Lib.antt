@@ -1,1 +1,9 @@
 pub mod Words
+pub mod Roots
+pub mod Lanes
+pub mod Choices
+pub mod Rotations
+pub mod FourRounds
+pub mod Padding
+pub mod Sums
+pub mod Steps

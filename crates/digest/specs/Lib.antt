@@ -1,3 +1,6 @@
 pub mod Cell
 pub mod CellLaw
+pub mod Halfway
+pub mod Roots
+pub mod Sha256
 pub mod SipHash
