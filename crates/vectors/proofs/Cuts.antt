@@ -1,48 +1,44 @@
 -- A line is cut at its first space, and so in one way.
-use Rattle.std.proofs.Common.{◌≡◌, ℕ, ◌<◌, List, Some, None, sym, ap, ◌∙◌, subst, arith, lit<, Bor}
-use Rattle.std.specs.Str.Parse.{IsNumeral, without_leading_plus, digits_value}
+use Rattle.std.proofs.Common.{◌≡◌, ℕ, List, Some, None, sym, ap, ◌∙◌, subst, arith, lit<, Bor}
 use Rattle.std.proofs.lemmas.Str.Pattern.{IsSplitOnceResult, split_after, split_parts}
+use Rattle.vectors.specs.declared.suite.Suite.{Suite}
 use Rattle.vectors.specs.Hex.{unhex}
-use Rattle.vectors.specs.Sip.{Says}
+use Rattle.vectors.specs.Suite.{Writes}
+use Rattle.vectors.specs.Vectors.{Says}
 
-pub no_space : (line : List ℕ) → IsSplitOnceResult 32 line None → (n : ℕ) (hash : List ℕ) → Says line n hash → ⊥
-no_space line split n hash says =
-    split_after 32 line says.number says.hex None split (lit< tt) says.cut says.first
+module _ (suite : Suite) (line : List ℕ) where
+  pub no_space : IsSplitOnceResult 32 line None → (message hash : List ℕ) → Says suite line message hash → ⊥
+  no_space split message hash says =
+      split_after 32 line says.word says.hex None split (lit< tt) says.cut says.first
 
-module _ (line : List ℕ) (x y : Bor (List ℕ)) (split : IsSplitOnceResult 32 line (Some (x, y))) where
-  parts : (n : ℕ) (hash : List ℕ) (says : Says line n hash) → (x.now ≡ says.number) × (y.now ≡ says.hex)
-  parts n hash says = split_after 32 line says.number says.hex (Some (x, y)) split (lit< tt) says.cut says.first
+  module _ (x y : Bor (List ℕ)) (split : IsSplitOnceResult 32 line (Some (x, y))) where
+    parts : (message hash : List ℕ) (says : Says suite line message hash) → (x.now ≡ says.word) × (y.now ≡ says.hex)
+    parts message hash says = split_after 32 line says.word says.hex (Some (x, y)) split (lit< tt) says.cut says.first
 
-  pub no_number
-      : (IsNumeral 10 (without_leading_plus x.now) × (digits_value 10 (without_leading_plus x.now) < 256) → ⊥)
-      → (n : ℕ) (hash : List ℕ)
-      → Says line n hash
-      → ⊥
-  no_number bad n hash says =
-      let e = (parts n hash says).0 in
-      bad (rw e (says.digits, subst (λ k. k < 256) says.means says.small))
+    pub no_message
+        : ((m : List ℕ) → Writes suite x.now m → ⊥)
+        → (message hash : List ℕ)
+        → Says suite line message hash
+        → ⊥
+    no_message bad message hash says =
+        let e = (parts message hash says).0 in
+        bad message (subst (λ k. Writes suite k message) (sym e) says.means)
 
-  pub no_hex : None ≡ unhex y.now → (n : ℕ) (hash : List ℕ) → Says line n hash → ⊥
-  no_hex none n hash says =
-      let e = (parts n hash says).1 in
-      let both = none ∙ ap unhex e ∙ says.writes in
-      let z : ◌≡◌ {A = ℕ} 0 1 = cc in
-      omega arith
+    pub no_hex : None ≡ unhex y.now → (message hash : List ℕ) → Says suite line message hash → ⊥
+    no_hex none message hash says =
+        let e = (parts message hash says).1 in
+        let both = none ∙ ap unhex e ∙ says.writes in
+        let z : ◌≡◌ {A = ℕ} 0 1 = cc in
+        omega arith
 
-  pub says
-      : (n : ℕ) (hash : List ℕ)
-      → (IsNumeral 10 (without_leading_plus x.now) × (digits_value 10 (without_leading_plus x.now) < 256)) × (n ≡ digits_value 10 (without_leading_plus x.now))
-      → Some hash ≡ unhex y.now
-      → Says line n hash
-  says n hash reads hex =
-      let cut = split_parts 32 line (Some (x, y)) split (lit< tt) in
-      record {
-        number = x.now;
-        hex = y.now;
-        cut = cut.0;
-        first = cut.1;
-        digits = reads.0.0;
-        means = reads.1;
-        small = subst (λ k. k < 256) (sym reads.1) reads.0.1;
-        writes = sym hex;
-      }
+    pub says : (message hash : List ℕ) → Writes suite x.now message → Some hash ≡ unhex y.now → Says suite line message hash
+    says message hash means hex =
+        let cut = split_parts 32 line (Some (x, y)) split (lit< tt) in
+        record {
+          word = x.now;
+          hex = y.now;
+          cut = cut.0;
+          first = cut.1;
+          means = means;
+          writes = sym hex;
+        }

@@ -4,18 +4,19 @@ use Rattle.std.specs.Str.Lines.{IsFirstLine}
 use Rattle.vectors.specs.declared.tally.Problem.{Problem}
 use Rattle.vectors.specs.declared.tally.Tally.{Tally}
 use Rattle.vectors.specs.First.{first_fault}
-use Rattle.vectors.specs.Sip.{LinesOf, Counts, Judged, Tallies, comment}
+use Rattle.vectors.specs.declared.suite.Suite.{Suite}
+use Rattle.vectors.specs.Vectors.{LinesOf, Counts, Judged, Tallies, comment}
 
 -- what the n lines before rest made of the tally goes on to that of the whole text
-abbrev pub Sofar : List ℕ → List ℕ → ℕ → Tally → Type 0
-Sofar text rest n t =
-    (end : Tally) (lines : List (List ℕ)) → LinesOf rest lines → Counts lines (n + 1) t.total t.agree t.fault end → Tallies text end
+abbrev pub Sofar : Suite → List ℕ → List ℕ → ℕ → Tally → Type 0
+Sofar suite text rest n t =
+    (end : Tally) (lines : List (List ℕ)) → LinesOf rest lines → Counts suite lines (n + 1) t.total t.agree t.fault end → Tallies suite text end
 
-module _ (text rest : List ℕ) (n : ℕ) (t : Tally) (so_far : Sofar text rest n t) where
-  pub all : length rest ≡ 0 → Tallies text t
+module _ (suite : Suite) (text rest : List ℕ) (n : ℕ) (t : Tally) (so_far : Sofar suite text rest n t) where
+  pub all : length rest ≡ 0 → Tallies suite text t
   all empty = so_far t [] empty (refl, refl, refl)
 
-  pub skip : (line next : List ℕ) (m : ℕ) → m ≡ n + 1 → 0 < length rest → IsFirstLine rest line next → comment line ≡ true → Sofar text next m t
+  pub skip : (line next : List ℕ) (m : ℕ) → m ≡ n + 1 → 0 < length rest → IsFirstLine rest line next → comment line ≡ true → Sofar suite text next m t
   skip line next m one more cut is end lines of counts =
       so_far end (line ∷ lines) (more, (next, cut, of)) (rw is (rw one at counts))
 
@@ -25,11 +26,11 @@ module _ (text rest : List ℕ) (n : ℕ) (t : Tally) (so_far : Sofar text rest 
       → 0 < length rest
       → IsFirstLine rest line next
       → comment line ≡ false
-      → Judged line p
+      → Judged suite line p
       → u.total ≡ t.total + 1
       → u.agree ≡ t.agree + cond (is_some p) 0 1
       → u.fault ≡ first_fault t.fault (n + 1) p
-      → Sofar text next m u
+      → Sofar suite text next m u
   count line next m p u one more cut is judged total agree fault end lines of counts =
       so_far end (line ∷ lines) (more, (next, cut, of)) (rw is (p, judged, rw (one, total, agree, fault) at counts))
 

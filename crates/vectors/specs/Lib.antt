@@ -1,3 +1,4 @@
 pub mod First
 pub mod Hex
-pub mod Sip
+pub mod Suite
+pub mod Vectors

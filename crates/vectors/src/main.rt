@@ -1,15 +1,22 @@
 // Runs the hashes against the vectors that were published with them.
 #![tactic(auto)]
 
-mod sip;
+mod suite;
 mod tally;
+mod vector;
 
 use anyhow::anyhow;
 use std::fs;
-use tally::Tally;
+use suite::Suite;
 
 // Says how many vectors of a hash agree, and fails where one does not.
-fn report(rt: &HostRuntime, hash: &str, tally: Tally) -> anyhow::Result<()> {
+fn report(rt: &HostRuntime, suite: Suite) -> anyhow::Result<()> {
+    let hash = suite.name();
+    let file = suite.file();
+    let Ok(text) = fs::read_to_string(rt, file) else {
+        return Err(anyhow!(format!(in rt.alloc(); "{file} cannot be read")?));
+    };
+    let tally = vector::tally(rt.alloc(), suite, text.as_str())?;
     let total = tally.total;
     let agree = tally.agree;
     println!(rt; "{hash}: {agree} of {total} published vectors agree")?;
@@ -19,13 +26,7 @@ fn report(rt: &HostRuntime, hash: &str, tally: Tally) -> anyhow::Result<()> {
     }
 }
 
-fn run(rt: &HostRuntime) -> anyhow::Result<()> {
-    let Ok(text) = fs::read_to_string(rt, "siphash24.txt") else {
-        return Err(anyhow!("siphash24.txt cannot be read"));
-    };
-    report(rt, "SipHash-2-4", sip::siphash(rt.alloc(), text.as_str())?)
-}
-
 fn main(rt: HostRuntime) -> anyhow::Result<()> {
-    run(&rt)
+    report(&rt, Suite::SipHash24)?;
+    report(&rt, Suite::Sha256)
 }

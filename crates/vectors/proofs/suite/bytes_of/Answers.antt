@@ -1,7 +1,7 @@
 use Rattle.std.proofs.Common.{◌≡◌, length, refl, ◌∙◌, arith}
 use Rattle.std.proofs.lemmas.List.{take_at}
 use Rattle.vectors.proofs.Hex.{decoded, refused}
-use Rattle.vectors.proofs.sip.bytes_of.Goals as goal
+use Rattle.vectors.proofs.suite.bytes_of.Goals as goal
 
 pub returns-in-Ok : goal.returns-in-Ok
 returns-in-Ok c =
