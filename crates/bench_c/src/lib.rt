@@ -9,6 +9,7 @@ ghost use Rattle.tree.specs.Layout.{root_of};
 use digest::hash::Hash;
 use digest::sha256::{SaltedSha256, sha256};
 use digest::siphash::{SipHash, siphash_2_4};
+use geometry::MOST;
 use std::alloc::Global;
 use tree::contents::Contents;
 use tree::layout::Tree;
@@ -45,7 +46,7 @@ pub extern "C" fn bench_siphash_image(key: &[u8; 16], block: &[u8; 512], out: &m
 fn copied(heap: Global, blocks: &[[u8; 512]]) -> Option<Contents>
     ensures { IfSome result (λ c. c.blocks.items ≡ blocks.now) }
 {
-    if !(1..=4096).contains(&blocks.len()) {
+    if !(1..=MOST).contains(&blocks.len()) {
         return None;
     }
     let blocks = Vec::from_slice(heap, blocks).ok()?;
