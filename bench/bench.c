@@ -179,8 +179,8 @@ static double now(void) {
     return (double)t.tv_sec + (double)t.tv_nsec * 1e-9;
 }
 
-// Does it so many times, and says how long once takes. Each hash goes into the next message, so that no call can begin before the last
-// has ended.
+// Does it so many times, and says how long once takes. A byte of each hash goes into the next message, so that no call can begin before
+// the last has ended.
 static double turn(const struct group *group, const struct side *side) {
     uint8_t out[32];
     double start = now();
@@ -247,7 +247,7 @@ static void with_sodium(struct group *hash, struct group *tree) {
 
 // Numbers from a fixed seed (splitmix64), so that each run has the same blocks.
 static void fill(void *to, size_t length) {
-    static uint64_t seed = 20260731;
+    static uint64_t seed = 1;
     for (size_t i = 0; i < length; i++) {
         uint64_t z = seed += 0x9e3779b97f4a7c15;
         z = (z ^ (z >> 30)) * 0xbf58476d1ce4e5b9;
@@ -273,6 +273,6 @@ int main(void) {
         else
             good = false;
     }
-    if (!good) puts("answers differ, so what was measured of the others stands for nothing");
+    if (!good) puts("answers differ: see above");
     return good ? 0 : 1;
 }
