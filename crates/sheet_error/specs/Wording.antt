@@ -27,13 +27,13 @@ number_text number.Sequence = codes "sequence number"
 -- the words of a line
 abbrev pub form_text : Keyword → List ℕ
 form_text keyword.Tray = codes "tray NUMBER"
-form_text keyword.Hash = codes "hash siphash KEY"
+form_text keyword.Hash = codes "hash sha256 SALT or hash siphash KEY"
 form_text keyword.Blocks = codes "blocks NUMBER"
 form_text keyword.Sim = codes "sim IDENTITY KEY-INDEX SEQUENCE-NUMBER"
 
 abbrev pub wrong_words_text : Keyword → List ℕ
 wrong_words_text keyword.Tray = codes "wrong number of words (tray NUMBER)"
-wrong_words_text keyword.Hash = codes "wrong number of words (hash siphash KEY)"
+wrong_words_text keyword.Hash = codes "wrong number of words (hash sha256 SALT or hash siphash KEY)"
 wrong_words_text keyword.Blocks = codes "wrong number of words (blocks NUMBER)"
 wrong_words_text keyword.Sim = codes "wrong number of words (sim IDENTITY KEY-INDEX SEQUENCE-NUMBER)"
 
@@ -72,9 +72,9 @@ cause_text (cause.NotANumber what) = not_decimal_text what
 cause_text (cause.OutOfRange what) = out_of_range_text what
 cause_text cause.IdentityLength = codes "identity is not 6 to 20 digits long"
 cause_text cause.IdentityDigit = codes "identity has something else than decimal digits"
-cause_text cause.UnknownHash = codes "unknown hash (siphash)"
-cause_text cause.KeyLength = codes "key is not 32 hexadecimal digits long"
-cause_text cause.KeyDigit = codes "key has something else than hexadecimal digits"
+cause_text cause.UnknownHash = codes "unknown hash (sha256 or siphash)"
+cause_text cause.KeyLength = codes "salt or key is not 32 hexadecimal digits long"
+cause_text cause.KeyDigit = codes "salt or key has something else than hexadecimal digits"
 cause_text (cause.Missing what) = missing_text what
 cause_text (cause.Repeated what) = repeated_text what
 cause_text (cause.Late what) = late_text what

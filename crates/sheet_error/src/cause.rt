@@ -69,10 +69,11 @@ pub enum Cause {
     // Not 6 to 20 bytes long.
     IdentityLength,
     IdentityDigit,
-    // The word after `hash` is not `siphash`.
+    // The word after `hash` is neither `sha256` nor `siphash`.
     UnknownHash,
-    // Not 32 bytes long.
+    // A salt or a key, which are written alike, is not 32 bytes long.
     KeyLength,
+    // It has something else than hexadecimal digits.
     KeyDigit,
     Missing(Header),
     Repeated(Header),

@@ -40,7 +40,7 @@ impl Keyword {
     {
         match self {
             Keyword::Tray => "tray NUMBER",
-            Keyword::Hash => "hash siphash KEY",
+            Keyword::Hash => "hash sha256 SALT or hash siphash KEY",
             Keyword::Blocks => "blocks NUMBER",
             Keyword::Sim => "sim IDENTITY KEY-INDEX SEQUENCE-NUMBER",
         }
@@ -68,9 +68,11 @@ impl fmt::Display for Cause {
             }
             Cause::IdentityLength => f.write_str("identity is not 6 to 20 digits long"),
             Cause::IdentityDigit => f.write_str("identity has something else than decimal digits"),
-            Cause::UnknownHash => f.write_str("unknown hash (siphash)"),
-            Cause::KeyLength => f.write_str("key is not 32 hexadecimal digits long"),
-            Cause::KeyDigit => f.write_str("key has something else than hexadecimal digits"),
+            Cause::UnknownHash => f.write_str("unknown hash (sha256 or siphash)"),
+            Cause::KeyLength => f.write_str("salt or key is not 32 hexadecimal digits long"),
+            Cause::KeyDigit => f.write_str(
+                "salt or key has something else than hexadecimal digits",
+            ),
             Cause::Missing(what) => write!(f, "{what} is missing"),
             Cause::Repeated(what) => write!(f, "{what} stands twice"),
             Cause::Late(what) => write!(f, "{what} stands after the first sim"),

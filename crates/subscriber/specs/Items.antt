@@ -8,7 +8,7 @@ use Rattle.sheet_error.specs.declared.cause.Keyword.{Keyword}
 use Rattle.sheet_error.specs.declared.cause.Keyword.TheVariants as keyword
 use Rattle.sheet_error.specs.declared.cause.Number.TheVariants as number
 use Rattle.subscriber.specs.declared.tray.HashChoice.{HashChoice}
-use Rattle.subscriber.specs.declared.tray.HashChoice.TheVariants.{SipHash}
+use Rattle.subscriber.specs.declared.tray.HashChoice.TheVariants.{Sha256, SipHash}
 use Rattle.sim.specs.Identity.{digit_run, padded}
 use Rattle.subscriber.specs.Number.{number_in}
 use Rattle.subscriber.specs.Text.{words}
@@ -32,7 +32,7 @@ hex_bytes [] = []
 hex_bytes (a ∷ []) = []
 hex_bytes (a ∷ b ∷ cs) = (digit_value a * 16 + digit_value b) ∷ hex_bytes cs
 
--- 16 bytes, written as 32 hexadecimal digits
+-- a salt or a key: 16 bytes, written as 32 hexadecimal digits
 unfoldable pub key_in : List ℕ → Result (List ℕ) Cause
 key_in w = cond (length w == 32) (cond (all_hex w) (Ok (hex_bytes w)) (Err cause.KeyDigit)) (Err cause.KeyLength)
 
@@ -69,9 +69,11 @@ pub data Said : Type 0 where
 abbrev pub counted : Keyword → ℕ → List (List ℕ) → Result Said Cause → Result Said Cause
 counted k n ws r = cond (length ws == n) r (Err (cause.WordCount k))
 
--- a hash by its name, with its key
+-- a hash by its name, with its salt or its key
 abbrev pub hash_in : List ℕ → List ℕ → Result HashChoice Cause
-hash_in name key = cond (bytes_eq name (codes "siphash")) (with_ok SipHash (key_in key)) (Err cause.UnknownHash)
+hash_in name key =
+    cond (bytes_eq name (codes "sha256")) (with_ok Sha256 (key_in key))
+    (cond (bytes_eq name (codes "siphash")) (with_ok SipHash (key_in key)) (Err cause.UnknownHash))
 
 -- a SIM: the first of its three words that is wrong gives the cause
 abbrev pub sim_in : List ℕ → List ℕ → List ℕ → Result Said Cause

@@ -58,15 +58,19 @@ fn tray_line(word: &[u8]) -> Result<Item, Cause>
     Ok(Item::Tray(TrayNumber { value }))
 }
 
-// What a line `hash` says: the hash of this name, with its key.
+// What a line `hash` says: the hash of this name, with its salt or its key.
 fn hash_line(name: &[u8], key: &[u8]) -> Result<Item, Cause>
     ensures { with_ok plain result ≡ with_ok hash_is (hash_in name.now key.now) }
 {
-    if name != b"siphash".as_slice() {
-        return Err(Cause::UnknownHash);
+    if name == b"sha256".as_slice() {
+        let salt = hex_key(key)?;
+        Ok(Item::Hash(HashChoice::Sha256 { salt }))
+    } else if name == b"siphash".as_slice() {
+        let key = hex_key(key)?;
+        Ok(Item::Hash(HashChoice::SipHash { key }))
+    } else {
+        Err(Cause::UnknownHash)
     }
-    let key = hex_key(key)?;
-    Ok(Item::Hash(HashChoice::SipHash { key }))
 }
 
 // What a line `blocks` says.

@@ -1,4 +1,4 @@
-// The key of a hash.
+// The salt or the key of a hash.
 ghost use Rattle.std.specs.Prelude.{◌≡◌};
 ghost use Rattle.subscriber.specs.Items.{key_in};
 

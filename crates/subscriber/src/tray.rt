@@ -9,9 +9,11 @@ pub struct TrayNumber {
     ghost low: { 1 ≤ value },
 }
 
-// The hash of a tray, with its key.
+// The hash of a tray, with what makes it this tray's own.
 #[derive(Clone, Copy)]
 pub enum HashChoice {
-    // SipHash-2-4.
+    // SHA-256 of a salt and then the block. The salt is no secret.
+    Sha256 { salt: [u8; 16] },
+    // SipHash-2-4 under a key. Who knows the key can make other blocks with the same image.
     SipHash { key: [u8; 16] },
 }

@@ -7,7 +7,7 @@ use subscriber::read::read_sheet;
 use subscriber::tray::HashChoice;
 
 // A bad sheet, and the line that its reader sees.
-const REFUSALS: [(&str, &str); 37] = [
+const REFUSALS: [(&str, &str); 42] = [
     (
         "tray 1\nslot 2\n",
         "line 2: the first word is none of tray, hash, blocks and sim",
@@ -18,8 +18,12 @@ const REFUSALS: [(&str, &str); 37] = [
     ),
     ("tray\n", "line 1: wrong number of words (tray NUMBER)"),
     (
+        "hash sha256 ",
+        "line 1: wrong number of words (hash sha256 SALT or hash siphash KEY)",
+    ),
+    (
         "hash siphash",
-        "line 1: wrong number of words (hash siphash KEY)",
+        "line 1: wrong number of words (hash sha256 SALT or hash siphash KEY)",
     ),
     (
         "blocks 1 2",
@@ -87,19 +91,31 @@ const REFUSALS: [(&str, &str); 37] = [
     ),
     (
         "hash md5 000102030405060708090a0b0c0d0e0f",
-        "line 1: unknown hash (siphash)",
+        "line 1: unknown hash (sha256 or siphash)",
+    ),
+    (
+        "hash SHA256 000102030405060708090a0b0c0d0e0f",
+        "line 1: unknown hash (sha256 or siphash)",
+    ),
+    (
+        "hash sha256 000102030405060708090a0b0c0d0e0",
+        "line 1: salt or key is not 32 hexadecimal digits long",
+    ),
+    (
+        "hash sha256 0x0102030405060708090a0b0c0d0e0f",
+        "line 1: salt or key has something else than hexadecimal digits",
     ),
     (
         "hash siphash 000102030405060708090a0b0c0d0e0",
-        "line 1: key is not 32 hexadecimal digits long",
+        "line 1: salt or key is not 32 hexadecimal digits long",
     ),
     (
         "hash siphash 000102030405060708090a0b0c0d0e0f0",
-        "line 1: key is not 32 hexadecimal digits long",
+        "line 1: salt or key is not 32 hexadecimal digits long",
     ),
     (
         "hash siphash 000102030405060708090a0b0c0d0e0g",
-        "line 1: key has something else than hexadecimal digits",
+        "line 1: salt or key has something else than hexadecimal digits",
     ),
     ("", "line 1: tray is missing"),
     ("tray 1\n\n", "line 3: hash is missing"),
@@ -114,6 +130,10 @@ const REFUSALS: [(&str, &str); 37] = [
     ("tray 1\ntray 1", "line 2: tray stands twice"),
     (
         "hash siphash 000102030405060708090a0b0c0d0e0f\nhash siphash 000102030405060708090a0b0c0d0e0f",
+        "line 2: hash stands twice",
+    ),
+    (
+        "hash sha256 000102030405060708090a0b0c0d0e0f\nhash siphash 000102030405060708090a0b0c0d0e0f",
         "line 2: hash stands twice",
     ),
     ("blocks 1\nblocks 2", "line 2: blocks stands twice"),
@@ -176,7 +196,9 @@ fn good_sheet(rt: HostRuntime) -> Result<(), Fail> {
     let sheet = read_sheet(rt.alloc(), text.as_bytes())?;
     assert_eq!(rt; sheet.tray.value, 42);
     assert_eq!(rt; sheet.blocks.value, 64);
-    let HashChoice::SipHash { key } = sheet.hash;
+    let HashChoice::SipHash { key } = sheet.hash else {
+        return Err(Fail::new("another hash"));
+    };
     assert_eq!(rt; key, [0, 1, 2, 3, 4, 5, 6, 7, 8, 9, 10, 11, 12, 13, 14, 15]);
     let [first, second] = sheet.sims.as_slice() else {
         return Err(Fail::new("not two SIMs"));
