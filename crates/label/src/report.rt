@@ -5,23 +5,20 @@ ghost use Rattle.geometry.specs.Geometry.{levels, total};
 ghost use Rattle.label.specs.Label.{volume_of};
 ghost use Rattle.label.specs.Report.{head_line, sim_line, sim_lines, tree_line, hex, label_line, report_with};
 ghost use Rattle.sim.specs.Block.{sim_block};
-ghost use Rattle.tree.specs.Layout.{root_of};
 
-use crate::load::load;
-use digest::hash::Hash;
 use geometry::Geometry;
 use sim::Sim;
 use sim::block::decode;
 use std::alloc::{AllocError, Global};
 use std::marker::Model;
 use subscriber::sheet::Sheet;
-use tree::layout::Tree;
+use tree::contents::Contents;
 
 // What names the contents of a tray: the kind of the hash, and the root of the tree under it.
 #[derive(Clone, Copy)]
-struct Label {
-    kind: u8,
-    root: [u8; 32],
+pub(crate) struct Label {
+    pub(crate) kind: u8,
+    pub(crate) root: [u8; 32],
 }
 
 // Two digits to a byte. It takes a slice, since the check knows no bound of the bytes of an array in a struct.
@@ -47,15 +44,16 @@ impl Model for Report {
 }
 
 impl Report {
-    // The whole report of a tray under a hash. The SIMs are read again from the blocks that the tree lies over.
-    pub(crate) fn over<H: Hash>(heap: Global, sheet: &Sheet, hash: &H) -> Result<Report, AllocError>
-        ensures { IfOk result (λ r. r ≡ report_with sheet.now.tray.value sheet.now.blocks.value sheet.now.sims.items H.Hash.KIND (root_of (H.Hash.image hash.now) (volume_of sheet.now.sims.items sheet.now.blocks.value))) }
+    // The whole report of a tray. The SIMs are read again from the blocks that the tree lies over.
+    pub(crate) fn over(
+        heap: Global,
+        sheet: &Sheet,
+        contents: &Contents,
+        label: Label,
+    ) -> Result<Report, AllocError>
+        requires { contents.now.blocks.items ≡ volume_of sheet.now.sims.items sheet.now.blocks.value }
+        ensures { IfOk result (λ r. r ≡ report_with sheet.now.tray.value sheet.now.blocks.value sheet.now.sims.items label.kind label.root) }
     {
-        let contents = load(heap, sheet)?;
-        let label = Label {
-            kind: H::KIND,
-            root: Tree::over(heap, hash, &contents)?.root,
-        };
         let mut report = Report::new(heap);
         report.head(sheet)?;
         report.sims(&contents.blocks[..sheet.sims.len()])?;

@@ -1,5 +1,4 @@
-use Rattle.std.proofs.Common.{rules}
 use Rattle.label.proofs.label.Goals as goal
 
 pub returns : goal.returns
-returns c = (c.in_ok-sheet.sheet, c.in_ok-sheet.ensures.answer, search rules)
+returns c = let (sheet, said, made) = c.in_ok-images.ensures in (sheet, said, made.report)
