@@ -1,15 +1,17 @@
-// From a tray's sheet to the label of its box.
+// From a tray's sheet to the label of its box and the images of its two cards.
 #![tactic(auto)]
 
-use label::label;
+use label::{images, label};
 use std::io::Read;
 use std::process::ExitCode;
 use std::{env, io};
 use subscriber::cause::SheetError;
 use thiserror::Error;
 
+mod card;
+
 const USAGE: &str =
-    "usage: simbox label < SHEET   print the label of a tray from its sheet\n       simbox --help          print this\n";
+    "usage: simbox label < SHEET              print the label of a tray from its sheet\n       simbox images DATA TREE < SHEET   write its two cards to the files DATA and TREE too\n       simbox --help                     print this\n";
 
 // Why the program ends without having done its work, and what it says then.
 #[derive(Debug, Drop, Error)]
@@ -20,14 +22,37 @@ enum Stop {
     Sheet(#[from] SheetError),
     #[error("simbox: {0}\n")]
     Io(#[from] io::Error),
+    // A card that cannot be written.
+    #[error("simbox: {name}: {error}\n")]
+    Card { name: String, error: io::Error },
+    #[error("simbox: DATA and TREE are one name, and the second card would replace the first\n")]
+    OneName,
+    #[error("simbox: {0}: a card's name may not end in .part\n")]
+    HalfName(String),
+    // A run that was cut off, or one that still writes, has files beside the card.
+    #[error("simbox: {0}: {0}.part or {0}.old.part is there already\n")]
+    InTheWay(String),
 }
 
-// Reads the whole sheet before anything is printed, so that a bad one leaves standard output empty.
-fn print_label(rt: &HostRuntime) -> Result<(), Stop> {
+// Reads the whole sheet before anything is written, so that a bad one leaves no file and standard output empty.
+fn sheet(rt: &HostRuntime) -> io::Result<Vec<u8>> {
     let mut text = Vec::new(rt.alloc());
     rt.stdin().read_to_end(&mut text)?;
+    Ok(text)
+}
+
+fn print_label(rt: &HostRuntime) -> Result<(), Stop> {
+    let text = sheet(rt)?;
     let report = label(rt.alloc(), text.as_slice())?;
     rt.print(report)?;
+    Ok(())
+}
+
+fn write_images(rt: &HostRuntime, data: String, tree: String) -> Result<(), Stop> {
+    let text = sheet(rt)?;
+    let images = images(rt.alloc(), text.as_slice())?;
+    card::write_both(rt, data, tree, &images)?;
+    rt.print(images.report)?;
     Ok(())
 }
 
@@ -41,12 +66,14 @@ fn no_words(error: io::Error) -> Stop {
 
 fn run(rt: &HostRuntime) -> Result<(), Stop> {
     let mut words = env::args(rt).map_err(no_words)?.skip(1);
-    let (Some(word), None) = (words.next(), words.next()) else {
+    let (Some(word), data, tree, None) = (words.next(), words.next(), words.next(), words.next())
+    else {
         return Err(Stop::Usage);
     };
-    match word.as_str() {
-        "label" => print_label(rt),
-        "--help" => {
+    match (word.as_str(), data, tree) {
+        ("label", None, None) => print_label(rt),
+        ("images", Some(data), Some(tree)) => write_images(rt, data, tree),
+        ("--help", None, None) => {
             rt.print(USAGE)?;
             Ok(())
         }
