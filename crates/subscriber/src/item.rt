@@ -62,6 +62,7 @@ fn tray_line(word: &[u8]) -> Result<Item, Cause>
 fn hash_line(name: &[u8], key: &[u8]) -> Result<Item, Cause>
     ensures { with_ok plain result ≡ with_ok hash_is (hash_in name.now key.now) }
 {
+    // By `==`, since after a `match` on these byte strings each of the four returns would be left to prove by hand.
     if name == b"sha256".as_slice() {
         let salt = hex_key(key)?;
         Ok(Item::Hash(HashChoice::Sha256 { salt }))
