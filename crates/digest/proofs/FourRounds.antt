@@ -2,7 +2,6 @@
 use Rattle.std.specs.Prelude.{◌≡◌, ℕ, suc, ◌+◌, ◌≤◌, List, [], ◌∷◌, ◌++◌, take, drop, length, slice_index}
 use Rattle.std.proofs.Common.{refl, arith}
 use Rattle.std.proofs.lemmas.List.{drop_more}
-use Rattle.std.specs.Simd.Lanes.{zip2}
 use Rattle.digest.specs.Halfway.{Left}
 use Rattle.digest.specs.Roots.{K}
 use Rattle.digest.proofs.Lanes.{four}
@@ -10,7 +9,7 @@ use Rattle.digest.specs.Sha256.{Ch, Maj, plus, Σ0, Σ1, round, rounds, schedule
 use Rattle.digest.specs.declared.variables.Variables.{Variables}
 
 -- the constant and the word may be added to each other first
-pub T1_share : (x k w sum : ℕ) → plus k w ≡ sum → plus x sum ≡ plus (plus x k) w
+T1_share : (x k w sum : ℕ) → plus k w ≡ sum → plus x sum ≡ plus (plus x k) w
 unfolding plus
 T1_share x k w sum e = omega (arith, e)
 
@@ -36,17 +35,6 @@ pub round_of
 unfolding round
 round_of v k w sum s1 c s0 m e big1 chosen big0 most =
     rw (T1_share (plus (plus v.h s1) c) k w sum e, big1, chosen, big0, most) refl
-
--- sums of constants and words, one by one
-abbrev Sums : List ℕ → List ℕ → Type 0
-Sums ks ws =
-    (plus (slice_index ks 0) (slice_index ws 0) ≡ slice_index (zip2 plus ks ws) 0)
-    × (plus (slice_index ks 1) (slice_index ws 1) ≡ slice_index (zip2 plus ks ws) 1)
-    × (plus (slice_index ks 2) (slice_index ws 2) ≡ slice_index (zip2 plus ks ws) 2)
-    × (plus (slice_index ks 3) (slice_index ws 3) ≡ slice_index (zip2 plus ks ws) 3)
-
-pub sums : (a b c d : ℕ) (ws : List ℕ) → length ws ≡ 4 → Sums (a ∷ b ∷ c ∷ d ∷ []) ws
-sums a b c d = four _ (λ w x y z. (refl, refl, refl, refl))
 
 -- four constants of the table, and those after them
 pub four_more : (ks : List ℕ) (t : ℕ) → t + 4 ≤ length ks

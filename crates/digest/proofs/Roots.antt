@@ -85,10 +85,10 @@ table_rule : (e n : ℕ) (ks : List ℕ) → are_fractions e n 0 ks ≡ true →
 unfolding primes_below
 table_rule e n ks h i below = subst (λ m. IsFractionOfPrime e m (slice_index ks i)) (omega arith) (fractions_hold e n 0 ks h i below)
 
-pub K_rule : AreFractions 3 K
+K_rule : AreFractions 3 K
 K_rule = table_rule 3 312 K test_K
 
-pub H0_rule : AreFractions 2 H0
+H0_rule : AreFractions 2 H0
 H0_rule = table_rule 2 20 H0 test_H0
 
 pub constants : Constants
