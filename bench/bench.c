@@ -16,8 +16,11 @@ void bench_sha256(const uint8_t *message, size_t length, uint8_t out[32]);
 uint64_t bench_siphash_2_4(const uint8_t key[16], const uint8_t *message, size_t length);
 void bench_sha256_image(const uint8_t salt[16], const uint8_t block[512], uint8_t out[32]);
 void bench_siphash_image(const uint8_t key[16], const uint8_t block[512], uint8_t out[32]);
-bool bench_sha256_root(const uint8_t salt[16], const block_t *blocks, size_t count, size_t times, uint8_t out[32]);
-bool bench_siphash_root(const uint8_t key[16], const block_t *blocks, size_t count, size_t times, uint8_t out[32]);
+uint32_t bench_sha256_root(const uint8_t salt[16], const block_t *blocks, size_t count, size_t times, uint8_t out[32]);
+uint32_t bench_siphash_root(const uint8_t key[16], const block_t *blocks, size_t count, size_t times, uint8_t out[32]);
+
+// What a call for a root answers; 2 is want of memory.
+enum { MADE = 0, NO_VOLUME = 1 };
 
 enum { BLOCKS = 4096, SALTED = 16 + 512, SIDES = 8 };
 
@@ -114,10 +117,10 @@ static void openssl_image(const uint8_t salt[16], const uint8_t block[512], uint
         return true;                                       \
     }
 
-static bool our_sha256_root(size_t times, uint8_t out[32]) { return bench_sha256_root(key, blocks, BLOCKS, times, out); }
-static bool our_siphash_root(size_t times, uint8_t out[32]) { return bench_siphash_root(key, blocks, BLOCKS, times, out); }
-EACH_TIME(our_sha256_root_copied, bench_sha256_root(key, blocks, BLOCKS, 1, out))
-EACH_TIME(our_siphash_root_copied, bench_siphash_root(key, blocks, BLOCKS, 1, out))
+static bool our_sha256_root(size_t times, uint8_t out[32]) { return bench_sha256_root(key, blocks, BLOCKS, times, out) == MADE; }
+static bool our_siphash_root(size_t times, uint8_t out[32]) { return bench_siphash_root(key, blocks, BLOCKS, times, out) == MADE; }
+EACH_TIME(our_sha256_root_copied, bench_sha256_root(key, blocks, BLOCKS, 1, out) == MADE)
+EACH_TIME(our_siphash_root_copied, bench_siphash_root(key, blocks, BLOCKS, 1, out) == MADE)
 EACH_TIME(plain_sha256_root, plain_root(plain_sha256_image, key, blocks, BLOCKS, out))
 EACH_TIME(plain_siphash_root, plain_root(plain_siphash_image, key, blocks, BLOCKS, out))
 EACH_TIME(sodium_siphash_root, plain_root(sodium_siphash_image, key, blocks, BLOCKS, out))
@@ -162,10 +165,10 @@ static bool others_agree(void) {
         images = images && memcmp(ours, plain, 32) == 0;
     }
     for (size_t count = 1; count < 600; count += 37) {
-        roots = roots && bench_sha256_root(key, blocks, count, 1, ours) && plain_root(plain_sha256_image, key, blocks, count, plain) && memcmp(ours, plain, 32) == 0;
-        roots = roots && bench_siphash_root(key, blocks, count, 1, ours) && plain_root(plain_siphash_image, key, blocks, count, plain) && memcmp(ours, plain, 32) == 0;
+        roots = roots && bench_sha256_root(key, blocks, count, 1, ours) == MADE && plain_root(plain_sha256_image, key, blocks, count, plain) && memcmp(ours, plain, 32) == 0;
+        roots = roots && bench_siphash_root(key, blocks, count, 1, ours) == MADE && plain_root(plain_siphash_image, key, blocks, count, plain) && memcmp(ours, plain, 32) == 0;
     }
-    roots = roots && !bench_siphash_root(key, blocks, 0, 1, ours) && !bench_siphash_root(key, blocks, BLOCKS + 1, 1, ours);
+    roots = roots && bench_siphash_root(key, blocks, 0, 1, ours) == NO_VOLUME && bench_siphash_root(key, blocks, BLOCKS + 1, 1, ours) == NO_VOLUME;
     if (!images) puts("images: plain C gives others than ours");
     if (!roots) puts("smaller trees: plain C gives other roots than ours");
     return images && roots;

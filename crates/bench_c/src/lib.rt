@@ -1,7 +1,8 @@
 // What the benchmark calls from C: each export calls one function of the libraries and says what that one says.
 #![tactic(auto)]
 
-ghost use Rattle.std.specs.Prelude.{◌≡◌, ◌≤◌, length, IfSome, IsTrue};
+ghost use Rattle.std.specs.Prelude.{◌≡◌, ℕ, List, IfOk};
+ghost use Rattle.bench_c.specs.Made.{Copied, Rooted, Told};
 ghost use Rattle.digest.specs.Sha256.{salted_cell, sha256};
 ghost use Rattle.digest.specs.SipHash.{sip_cell, siphash_2_4};
 ghost use Rattle.tree.specs.Layout.{root_of};
@@ -10,7 +11,7 @@ use digest::hash::Hash;
 use digest::sha256::{SaltedSha256, sha256};
 use digest::siphash::{SipHash, siphash_2_4};
 use geometry::MOST;
-use std::alloc::Global;
+use std::alloc::{AllocError, Global};
 use tree::contents::Contents;
 use tree::layout::Tree;
 
@@ -42,52 +43,71 @@ pub extern "C" fn bench_siphash_image(key: &[u8; 16], block: &[u8; 512], out: &m
     *out = SipHash::new(*key).image_of(block);
 }
 
-// A copy of 1 to 4096 blocks, if there is memory.
-fn copied(heap: Global, blocks: &[[u8; 512]]) -> Option<Contents>
-    ensures { IfSome result (λ c. c.blocks.items ≡ blocks.now) }
+// Why there is no root.
+#[derive(Clone, Copy)]
+enum Trouble {
+    // No blocks, or more than a volume has.
+    Count,
+    Memory,
+}
+
+// A copy of the blocks.
+fn copied(heap: Global, blocks: &[[u8; 512]]) -> Result<Contents, Trouble>
+    ensures { Copied blocks.now result }
 {
     if !(1..=MOST).contains(&blocks.len()) {
-        return None;
+        return Err(Trouble::Count);
     }
-    let blocks = Vec::from_slice(heap, blocks).ok()?;
-    Some(Contents { blocks })
+    match Vec::from_slice(heap, blocks) {
+        Ok(blocks) => Ok(Contents { blocks }),
+        Err(_) => Err(Trouble::Memory),
+    }
 }
 
-// The root of the tree over contents. The tree is made `times` times, so that the one copy that it is made over can be left out of
-// account.
-fn root<H: Hash>(heap: Global, hash: &H, contents: &Contents, times: usize) -> Option<[u8; 32]>
-    ensures { IfSome result (λ r. r ≡ root_of (H.Hash.image hash.now) contents.now.blocks.items) }
+// The root of the tree over contents, if there is memory. The tree is made `times` times, so that the one copy that it is made over can
+// be left out of account.
+fn root<H: Hash>(
+    heap: Global,
+    hash: &H,
+    contents: &Contents,
+    times: usize,
+) -> Result<[u8; 32], AllocError>
+    ensures { IfOk result (λ r. r ≡ root_of (H.Hash.image hash.now) contents.now.blocks.items) }
 {
-    let mut root = Tree::over(heap, hash, contents).ok()?.root;
+    let mut root = Tree::over(heap, hash, contents)?.root;
     for _ in 1..times {
-        root = Tree::over(heap, hash, contents).ok()?.root;
+        root = Tree::over(heap, hash, contents)?.root;
     }
-    Some(root)
+    Ok(root)
 }
 
-// The root of the tree over 1 to 4096 blocks, if there is memory.
+// The root of the tree over a copy of the blocks.
 fn root_over<H: Hash>(
     heap: Global,
     hash: &H,
     blocks: &[[u8; 512]],
     times: usize,
-) -> Option<[u8; 32]>
-    ensures { IfSome result (λ r. r ≡ root_of (H.Hash.image hash.now) blocks.now) }
+) -> Result<[u8; 32], Trouble>
+    ensures { Rooted (H.Hash.image hash.now) blocks.now result }
 {
     let contents = copied(heap, blocks)?;
-    root(heap, hash, &contents, times)
+    match root(heap, hash, &contents, times) {
+        Ok(root) => Ok(root),
+        Err(_) => Err(Trouble::Memory),
+    }
 }
 
-// Writes a root where there is one.
-fn put(out: &mut [u8; 32], root: Option<[u8; 32]>) -> bool
-    ensures { IsTrue result → root ≡ Some out.new }
+// Writes a root where there is one, and says what C is told.
+fn put(out: &mut [u8; 32], root: Result<[u8; 32], Trouble>) -> u32
+    ensures { (image : List ℕ → List ℕ) (blocks : List (List ℕ)) → Rooted image blocks root → Told image blocks out.old out.new result }
 {
     match root {
-        None => false,
-        Some(root) => {
+        Ok(root) => {
             *out = root;
-            true
+            0
         }
+        Err(Trouble::Count) => 1,
+        Err(Trouble::Memory) => 2,
     }
 }
 
@@ -98,8 +118,8 @@ pub extern "C" fn bench_sha256_root(
     blocks: &[[u8; 512]],
     times: usize,
     out: &mut [u8; 32],
-) -> bool
-    ensures { IsTrue result → out.new ≡ root_of (salted_cell salt.now) blocks.now }
+) -> u32
+    ensures { Told (salted_cell salt.now) blocks.now out.old out.new result }
 {
     put(
         out,
@@ -114,8 +134,8 @@ pub extern "C" fn bench_siphash_root(
     blocks: &[[u8; 512]],
     times: usize,
     out: &mut [u8; 32],
-) -> bool
-    ensures { IsTrue result → out.new ≡ root_of (sip_cell key.now) blocks.now }
+) -> u32
+    ensures { Told (sip_cell key.now) blocks.now out.old out.new result }
 {
     put(out, root_over(heap, &SipHash::new(*key), blocks, times))
 }

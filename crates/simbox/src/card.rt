@@ -7,17 +7,23 @@ use std::fs::File;
 use std::io::{ErrorKind, Write};
 use std::{fs, io};
 
-// No card may have a name that ends so, since one card's half could then be the other card.
+// No card may have a name that ends in one of these, so that what lies beside one card is never the other card, nor what lies beside it.
 const HALF: &str = ".part";
 
-const KEPT: &str = ".old.part";
+const KEPT: &str = ".part.old";
 
-// An image that is whole, but under the name `half`. It is not `Drop`, so that each way on gives it its name or takes it away.
-struct Written {
+// A name that a card may be given, and the two beside it.
+#[derive(Drop)]
+struct Place {
     name: String,
     half: String,
     // Where to keep what stands under the name until both cards have theirs.
     kept: String,
+}
+
+// An image that is whole, but under the name `half`. It is not `Drop`, so that no caller lets it go: it is given its name or taken away.
+struct Written {
+    place: Place,
 }
 
 // An image under its name, and where the older one is kept, if there was one.
@@ -36,6 +42,9 @@ pub(crate) fn write_both(
     if data.as_str() == tree.as_str() {
         return Err(Stop::OneName);
     }
+    // Both names are looked at first, so that a wrong one is told before anything is written.
+    let data = Place::new(rt, data)?;
+    let tree = Place::new(rt, tree)?;
     let data = Written::new(rt, data, &images.volume)?;
     match Written::new(rt, tree, &images.tree) {
         Ok(tree) => name_both(rt, data, tree),
@@ -67,33 +76,37 @@ fn name_both(rt: &HostRuntime, data: Written, tree: Written) -> Result<(), Stop>
     }
 }
 
-impl Written {
-    fn new(rt: &HostRuntime, name: String, blocks: &[[u8; 512]]) -> Result<Written, Stop> {
-        if name.as_str().ends_with(HALF) {
+impl Place {
+    fn new(rt: &HostRuntime, name: String) -> Result<Place, Stop> {
+        if name.as_str().ends_with(HALF) || name.as_str().ends_with(KEPT) {
             return Err(Stop::HalfName(name));
         }
         let half = beside(rt.alloc(), name.as_str(), HALF)?;
         let kept = beside(rt.alloc(), name.as_str(), KEPT)?;
-        match write_beside(rt, name.as_str(), half.as_str(), kept.as_str(), blocks) {
-            Ok(()) => Ok(Written { name, half, kept }),
-            Err(error) => Err(match error.kind() {
-                ErrorKind::AlreadyExists => Stop::InTheWay(name),
-                _ => Stop::Card { name, error },
-            }),
+        match look(rt, name.as_str(), half.as_str(), kept.as_str()) {
+            Ok(()) => Ok(Place { name, half, kept }),
+            Err(error) => Err(refused(name, error)),
+        }
+    }
+}
+
+impl Written {
+    fn new(rt: &HostRuntime, place: Place, blocks: &[[u8; 512]]) -> Result<Written, Stop> {
+        match write_new(rt, place.half.as_str(), blocks) {
+            Ok(()) => Ok(Written { place }),
+            Err(error) => Err(refused(place.name, error)),
         }
     }
 
     fn remove(self, rt: &HostRuntime) {
-        let Written {
-            name: _,
-            half,
-            kept: _,
-        } = self;
-        remove(rt, half.as_str());
+        let Written { place } = self;
+        remove(rt, place.half.as_str());
     }
 
     fn give_name(self, rt: &HostRuntime) -> Result<Named, Stop> {
-        let Written { name, half, kept } = self;
+        let Written {
+            place: Place { name, half, kept },
+        } = self;
         match replace(rt, name.as_str(), half.as_str(), kept.as_str()) {
             Ok(replaced) => Ok(Named {
                 name,
@@ -129,19 +142,30 @@ fn beside(heap: Global, name: &str, ending: &str) -> io::Result<String> {
     Ok(format!(in heap; "{name}{ending}")?)
 }
 
-fn write_beside(
-    rt: &HostRuntime,
-    name: &str,
-    half: &str,
-    kept: &str,
-    blocks: &[[u8; 512]],
-) -> io::Result<()> {
+// Why a card cannot be written. A file beside it is told apart, as it is not the one that was named.
+fn refused(name: String, error: io::Error) -> Stop {
+    match error.kind() {
+        ErrorKind::AlreadyExists => Stop::InTheWay(name),
+        _ => Stop::Card { name, error },
+    }
+}
+
+// A renaming would replace what a run that was cut off has left beside a card.
+fn look(rt: &HostRuntime, name: &str, half: &str, kept: &str) -> io::Result<()> {
     refuse_other(rt, name)?;
-    // A renaming would replace what a run that was cut off has kept there.
-    if fs::exists(rt, kept)? {
+    if is_there(rt, half)? || is_there(rt, kept)? {
         return Err(ErrorKind::AlreadyExists.into());
     }
-    write_new(rt, half, blocks)
+    Ok(())
+}
+
+// A link that leads nowhere is there too.
+fn is_there(rt: &HostRuntime, name: &str) -> io::Result<bool> {
+    match fs::symlink_metadata(rt, name) {
+        Ok(_) => Ok(true),
+        Err(error) if error.kind() == ErrorKind::NotFound => Ok(false),
+        Err(error) => Err(error),
+    }
 }
 
 // Nothing but a file may be replaced: a name may be that of a directory, or of a device that is written to by mistake.

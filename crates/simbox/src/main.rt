@@ -27,10 +27,10 @@ enum Stop {
     Card { name: String, error: io::Error },
     #[error("simbox: DATA and TREE are one name, and the second card would replace the first\n")]
     OneName,
-    #[error("simbox: {0}: a card's name may not end in .part\n")]
+    #[error("simbox: {0}: a card's name may not end in .part or .part.old\n")]
     HalfName(String),
     // A run that was cut off, or one that still writes, has files beside the card.
-    #[error("simbox: {0}: {0}.part or {0}.old.part is there already\n")]
+    #[error("simbox: {0}: {0}.part or {0}.part.old is there already\n")]
     InTheWay(String),
 }
 
