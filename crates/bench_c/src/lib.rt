@@ -1,4 +1,5 @@
-// What the benchmark calls from C: each export calls one function of the libraries and says what that one says.
+// What the benchmark calls from C: each export says what the function of the libraries that it calls says; one that makes a root also says which
+// number C is told.
 #![tactic(auto)]
 
 ghost use Rattle.std.specs.Prelude.{◌≡◌, ℕ, List, IfOk};

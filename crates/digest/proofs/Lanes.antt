@@ -1,5 +1,5 @@
 -- Vectors of four words, and the message schedule four words at a time.
-use Rattle.std.specs.Prelude.{◌≡◌, ℕ, ◌+◌, ◌-◌, ◌*◌, ◌/◌, ◌%◌, ◌^◌, ◌<◌, List, [], ◌∷◌, ◌++◌, map, length, slice_index, slice_index_or, bit_or, bit_xor}
+use Rattle.std.specs.Prelude.{◌≡◌, ℕ, zero, suc, ◌+◌, ◌-◌, ◌*◌, ◌/◌, ◌%◌, ◌^◌, ◌<◌, List, [], ◌∷◌, ◌++◌, map, drop, take, length, slice_index, slice_index_or, bit_or, bit_xor}
 use Rattle.std.proofs.Common.{refl, ap, sym, ◌∙◌, arith}
 use Rattle.std.proofs.Math.ListN.{get_or-map}
 use Rattle.std.specs.Int.{w32, from_be_bytes}
@@ -54,7 +54,7 @@ abbrev sum : List ℕ → List ℕ → List ℕ
 sum = zip2 plus
 
 -- words i to i + 3 of a list
-abbrev from : ℕ → List ℕ → List ℕ
+abbrev pub from : ℕ → List ℕ → List ℕ
 from i xs = slice_index_or xs i 0 ∷ slice_index_or xs (i + 1) 0 ∷ slice_index_or xs (i + 2) 0 ∷ slice_index_or xs (i + 3) 0 ∷ []
 
 -- the shares of the words two places before, of which those of the last two come from the first two
@@ -91,10 +91,21 @@ next =
     four _ (λ c0 c1 c2 c3.
     four _ (λ d0 d1 d2 d3. next_lanes a0 a1 a2 a3 b0 b1 b2 b3 c0 c1 c2 c3 d0 d1 d2 d3))))
 
--- the sixteen words of a block, four at a time
+-- four words of a block, and all sixteen as four times four
+pub four_of
+    : (block : List ℕ) (i : ℕ)
+    → i < 4
+    → from (4 * i) (block_words block) ≡ take 4 (drop (4 * i) (block_words block))
+unfolding block_words
+four_of block zero h = refl
+four_of block (suc zero) h = refl
+four_of block (suc (suc zero)) h = refl
+four_of block (suc (suc (suc zero))) h = refl
+four_of block (suc (suc (suc (suc i)))) h = absurd (omega (arith, h))
+
 pub sixteen
     : (block : List ℕ)
-    → from 0 (block_words block) ++ (from 4 (block_words block) ++ (from 8 (block_words block) ++ from 12 (block_words block)))
+    → take 4 (block_words block) ++ (take 4 (drop 4 (block_words block)) ++ (take 4 (drop 8 (block_words block)) ++ take 4 (drop 12 (block_words block))))
     ≡ block_words block
 unfolding block_words
 sixteen block = refl

@@ -85,12 +85,12 @@ table_rule : (e n : ℕ) (ks : List ℕ) → are_fractions e n 0 ks ≡ true →
 unfolding primes_below
 table_rule e n ks h i below = subst (λ m. IsFractionOfPrime e m (slice_index ks i)) (omega arith) (fractions_hold e n 0 ks h i below)
 
-K_rule : AreFractions 3 K
-K_rule = table_rule 3 312 K test_K
+cubes : AreFractions 3 K
+cubes = table_rule 3 312 K test_K
 
-H0_rule : AreFractions 2 H0
-H0_rule = table_rule 2 20 H0 test_H0
+squares : AreFractions 2 H0
+squares = table_rule 2 20 H0 test_H0
 
 pub constants : Constants
 unfolding K H0
-constants = record { length_K = refl; K = K_rule; length_H0 = refl; H0 = H0_rule }
+constants = record { K_long = refl; K_rule = cubes; H0_long = refl; H0_rule = squares }

@@ -54,7 +54,7 @@ AreFractions e ks = (i : ℕ) → i < length ks → IsFractionOfPrime e i (slice
 -- the rule of both tables: the constants are the fractions of the cube roots of the first 64 prime numbers, and the words before the
 -- message those of the square roots of the first 8
 pub record Constants : Type 0 where
-  pub length_K : length K ≡ 64
-  pub K : AreFractions 3 K
-  pub length_H0 : length H0 ≡ 8
-  pub H0 : AreFractions 2 H0
+  pub K_long : length K ≡ 64
+  pub K_rule : AreFractions 3 K
+  pub H0_long : length H0 ≡ 8
+  pub H0_rule : AreFractions 2 H0

@@ -1,5 +1,5 @@
 // The message schedule of SHA-256, four words at a time, since a vector of four costs little more than one word.
-ghost use Rattle.std.specs.Prelude.{◌≡◌, ◌<◌, ◌+◌, ◌*◌, ◌++◌, [], ◌∷◌, map, slice_index};
+ghost use Rattle.std.specs.Prelude.{◌≡◌, ◌<◌, ◌+◌, ◌*◌, ◌++◌, [], ◌∷◌, drop, map, slice_index, take};
 ghost use Rattle.digest.specs.Halfway.{words_of};
 ghost use Rattle.digest.specs.Sha256.{ROTR, block_words, plus, slide, σ0, σ1};
 
@@ -48,7 +48,7 @@ fn next_four(w0: u32x4, w1: u32x4, w2: u32x4, w3: u32x4) -> u32x4
 #[inline(always)]
 fn four_words(block: &[u8; 64], i: usize) -> u32x4
     requires { i < 4 }
-    ensures { result ≡ slice_index (block_words block.now) (4 * i) ∷ slice_index (block_words block.now) (4 * i + 1) ∷ slice_index (block_words block.now) (4 * i + 2) ∷ slice_index (block_words block.now) (4 * i + 3) ∷ [] }
+    ensures { result ≡ take 4 (drop (4 * i) (block_words block.now)) }
 {
     let (words, _) = block.as_chunks::<4>();
     u32x4::from_array([

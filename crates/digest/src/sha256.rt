@@ -76,8 +76,8 @@ impl SaltedSha256 {
     }
 }
 
-// The cell is the whole digest. The salt and the front of the block are the only bytes that are put together; the others are read
-// where they lie, so an image is nine compressions and takes nothing from the heap.
+// The cell is the whole digest. Only the first and the last of its nine blocks are put together, the one from the salt and the front of
+// the block, the other with the padding; the others are read where they lie, and nothing is taken from the heap.
 impl Hash for SaltedSha256 {
     const KIND: u8 = 1;
 

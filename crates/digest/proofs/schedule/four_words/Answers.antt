@@ -1,5 +1,5 @@
 use Rattle.std.proofs.Common.{◌≡◌, ◌+◌, ◌*◌, length, rules, ◌∙◌}
-use Rattle.digest.proofs.Lanes.{word_at}
+use Rattle.digest.proofs.Lanes.{four_of, word_at}
 use Rattle.digest.proofs.schedule.four_words.Goals as goal
 
 pub returns : goal.returns
@@ -13,3 +13,4 @@ returns c =
       c.from_be_bytes-3.ensures ∙ word (4 * c.args.i + 2),
       c.from_be_bytes-4.ensures ∙ word (4 * c.args.i + 3),
     )
+    (four_of block c.args.i c.requires)
