@@ -1,0 +1,2 @@
+pub mod EveryPile
+pub mod Slots
