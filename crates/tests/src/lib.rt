@@ -2,6 +2,8 @@
 
 // Examples of what the libraries do. The expected values were worked out by hand or come from outside.
 #[cfg(test)]
+mod devices;
+#[cfg(test)]
 mod digests;
 #[cfg(test)]
 mod labels;
