@@ -7,7 +7,7 @@ use crate::device::Device;
 use crate::fault::Fault;
 use crate::source::Source;
 
-// AreWhole 512-byte parts of lent bytes, at most 65,536 of them, each a block.
+// Whole 512-byte parts of lent bytes, at most 65,536 of them, each a block.
 #[derive(Drop)]
 pub struct Memory<'a> {
     bytes: &'a mut [u8],

@@ -6,7 +6,7 @@ use crate::checks::check_read;
 use crate::fault::Fault;
 use crate::source::Source;
 
-// AreWhole 512-byte parts of lent bytes, at most 65,536 of them, each a block.
+// Whole 512-byte parts of lent bytes, at most 65,536 of them, each a block.
 #[derive(Clone, Copy)]
 pub struct Sealed<'a> {
     bytes: &'a [u8],
