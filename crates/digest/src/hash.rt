@@ -4,7 +4,7 @@ ghost use Rattle.digest.specs.Cell.{IsCell};
 
 // A block is 512 bytes on every device, and its image, a cell, 32 bytes in every tree.
 pub trait Hash {
-    // The number that names this hash on a label, and in the trusted register that a volume will have, 1 to 255. It is no enum, since
+    // The number that names this hash on a label, and in the trusted register of a volume, 1 to 255. It is no enum, since
     // any crate may add a hash.
     const KIND: u8;
 

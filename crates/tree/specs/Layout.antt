@@ -15,7 +15,7 @@ side_by_side cells = flat_map (λ cell. cell) cells ++ replicate (512 - 32 * len
 unfoldable pub pack : List (List ℕ) → List (List ℕ)
 pack cells = map (λ j. side_by_side (take 16 (drop (16 * j) cells))) (range_with_len 0 (up (length cells)))
 
--- a block with its cell c replaced, for the writing of a volume; no contract cites it yet
+-- a block with its cell c replaced, as a write of a volume does it
 unfoldable pub put_cell : List ℕ → ℕ → List ℕ → List ℕ
 put_cell block c cell = take (32 * c) block ++ (cell ++ drop (32 * c + 32) block)
 
