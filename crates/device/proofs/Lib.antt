@@ -1,2 +1,3 @@
 pub mod EveryPile
+pub mod Evicted
 pub mod Slots

@@ -8,7 +8,7 @@ use Rattle.device.specs.declared.lines.Slot.{Slot}
 use Rattle.device.specs.declared.lines.Slot.TheVariants.{Held, Empty, Least}
 use Rattle.device.specs.declared.source.Source
 use Rattle.device.specs.Checks.{GuardedRead, GuardedWrite}
-use Rattle.device.specs.Lines.{IsSlotFor, filled, held, held_below, line, none_held, rewritten}
+use Rattle.device.specs.Lines.{Goes, IsSlotFor, held, held_below, line, none_held}
 use Rattle.device.specs.Meaning.{Cell, Meaning, loose, sure}
 use Rattle.device.specs.Passed.{PassedRead}
 
@@ -52,14 +52,13 @@ module _ {D : Type 0} (g : Source.Ghosts D) where
   cache_source = record { meaning = cache_meaning; reads = cache_reads }
 
   module _ (d : Device.Ghosts D) where
-    -- what becomes of the lines and of what is below where block n goes to a line: a line that holds it is rewritten, an empty one filled;
-    -- the line that is written least is written below first and makes room, accepted there or not
+    -- what becomes of the lines and of what is below where block n goes to a line: the line that is
+    -- written least is written below first and makes room, accepted there or not
     abbrev pub Taken : Cache D → ℕ → List ℕ → Cache D → Slot → Type 0
-    Taken s n block t (Held i) =
-        ((a : Line) → line s.lines.lines i ≡ Some a → t.lines.lines ≡ set s.lines.lines i (Some (rewritten a block))) × (t.below ≡ s.below)
-    Taken s n block t (Empty i) = (t.lines.lines ≡ set s.lines.lines i (Some (filled n block))) × (t.below ≡ s.below)
+    Taken s n block t (Held i) = Goes s.lines.lines n block (Held i) t.lines.lines × (t.below ≡ s.below)
+    Taken s n block t (Empty i) = Goes s.lines.lines n block (Empty i) t.lines.lines × (t.below ≡ s.below)
     Taken s n block t (Least i) =
-        (t.lines.lines ≡ set s.lines.lines i (Some (filled n block)))
+        Goes s.lines.lines n block (Least i) t.lines.lines
         × ((a : Line) → line s.lines.lines i ≡ Some a → (answer : Result Unit Fault) × d.writes s.below a.number a.bytes answer t.below)
 
     -- a block that is written goes to the line that is for it

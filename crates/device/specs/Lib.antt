@@ -7,6 +7,7 @@ pub mod Crooked
 pub mod CrookedLaws
 pub mod Either
 pub mod EitherLaws
+pub mod Evictions
 pub mod Faults
 pub mod Lines
 pub mod LinesLaws

@@ -1,5 +1,5 @@
 -- The lines of a cache: what each holds, and which one a block that is written goes to.
-use Rattle.std.specs.Prelude.{◌≡◌, ℕ, ◌+◌, ◌<◌, ◌≤◌, ◌⊎◌, min, cond, nat_eq, nat_lt, ◌&&◌, Bool, true, false, List, [], ◌∷◌, get_or, length, Option, Some, None}
+use Rattle.std.specs.Prelude.{◌≡◌, ℕ, ◌+◌, ◌<◌, ◌≤◌, ◌⊎◌, min, cond, nat_eq, nat_lt, ◌&&◌, Bool, true, false, List, [], ◌∷◌, get_or, set, length, Option, Some, None}
 use Rattle.device.specs.declared.lines.Line.{Line}
 use Rattle.device.specs.declared.lines.Slot.{Slot}
 use Rattle.device.specs.declared.lines.Slot.TheVariants.{Held, Empty, Least}
@@ -76,3 +76,9 @@ abbrev pub IsSlotFor : List (Option Line) → ℕ → Slot → Type 0
 IsSlotFor lines n (Held i) = (a : Line) × IsLineOf lines n i a
 IsSlotFor lines n (Empty i) = NoLineOf lines n × IsLowestEmpty lines i
 IsSlotFor lines n (Least i) = NoLineOf lines n × FirstHold lines (length lines) × ((a : Line) × IsLeastUsed lines i a)
+
+-- what becomes of the lines where block n goes to this slot: a line that holds it is rewritten, any other filled
+abbrev pub Goes : List (Option Line) → ℕ → List ℕ → Slot → List (Option Line) → Type 0
+Goes lines n block (Held i) lines' = (a : Line) → line lines i ≡ Some a → lines' ≡ set lines i (Some (rewritten a block))
+Goes lines n block (Empty i) lines' = lines' ≡ set lines i (Some (filled n block))
+Goes lines n block (Least i) lines' = lines' ≡ set lines i (Some (filled n block))

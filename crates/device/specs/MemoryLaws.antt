@@ -51,16 +51,16 @@ pub put_with_part : (bytes : List ℕ) (n : ℕ) (block : List ℕ) → put_mid 
 unfolding with_part
 put_with_part bytes n block = ap (λ rest. take (512 * n) bytes ++ (block ++ rest)) (drop-drop 512 (512 * n) bytes)
 
-length-with_part : (bytes : List ℕ) (n : ℕ) (block : List ℕ) → length block ≡ 512 → n < parts bytes → length (with_part bytes n block) ≡ length bytes
+pub length-with_part : (bytes : List ℕ) (n : ℕ) (block : List ℕ) → length block ≡ 512 → n < parts bytes → length (with_part bytes n block) ≡ length bytes
 unfolding with_part
 length-with_part bytes n block long h = simp (length-append, length-take, length-drop) (omega arith)
 
 module _ (bytes : List ℕ) (n k : ℕ) (block : List ℕ) (below : n < parts bytes) (long : length block ≡ 512) where
-  same_part : k ≡ n → part (with_part bytes n block) k ≡ block
+  pub same_part : k ≡ n → part (with_part bytes n block) k ≡ block
   unfolding part
   same_part same = rw (same, ← put_with_part bytes n block) (part_itself bytes block (512 * n) 512 (omega arith) long)
 
-  other_part : (k ≡ n → ⊥) → part (with_part bytes n block) k ≡ part bytes k
+  pub other_part : (k ≡ n → ⊥) → part (with_part bytes n block) k ≡ part bytes k
   unfolding part
   other_part other = rw (← put_with_part bytes n block) (⊎_elim
       (λ before. part_before bytes block (512 * n) 512 (omega arith) (512 * k) (omega arith))
