@@ -1,0 +1,17 @@
+pub mod Calls
+pub mod Cases
+pub mod Checks
+pub mod Effects
+pub mod EveryPile
+pub mod Extract
+pub mod Format
+pub mod Ledger
+pub mod Parts
+pub mod Promise
+pub mod Record
+pub mod Refusals
+pub mod Slips
+pub mod Story
+pub mod View
+pub mod Walk
+pub mod Writes
