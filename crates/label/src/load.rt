@@ -18,7 +18,7 @@ fn sim_blocks(heap: Global, sims: &[Sim]) -> Result<Vec<[u8; 512]>, AllocError>
 
 // SIM k stands in block k, and zeros in every block after the last SIM.
 #[tactic(auto, unfolding(tree::specs::Layout::zero_block))]
-pub(crate) fn load(heap: Global, sheet: &Sheet) -> Result<Contents, AllocError>
+pub fn load(heap: Global, sheet: &Sheet) -> Result<Contents, AllocError>
     ensures { IfOk result (λ c. c.blocks.items ≡ volume_of sheet.now.sims.items sheet.now.blocks.value) }
 {
     let mut blocks = sim_blocks(heap, &sheet.sims)?;

@@ -1,4 +1,4 @@
-// From a tray's sheet to the label of its box and the images of its two cards.
+// From a tray's sheet to the label of its box and the images of its two cards, and to the trials of a box in memory.
 #![tactic(auto)]
 
 use label::{images, label};
@@ -7,11 +7,13 @@ use std::process::ExitCode;
 use std::{env, io};
 use subscriber::cause::SheetError;
 use thiserror::Error;
+use trial::failure::Failure;
+use trial::{drill, load};
 
 mod card;
 
 const USAGE: &str =
-    "usage: simbox label < SHEET              print the label of a tray from its sheet\n       simbox images DATA TREE < SHEET   write its two cards to the files DATA and TREE too\n       simbox --help                     print this\n";
+    "usage: simbox label < SHEET              print the label of a tray from its sheet\n       simbox images DATA TREE < SHEET   write its two cards to the files DATA and TREE too\n       simbox load < SHEET               try the tray on a box in memory, down to its label\n       simbox drill < SHEET              the same on cards that go bad\n       simbox --help                     print this\n";
 
 // Why the program ends without having done its work, and what it says then.
 #[derive(Debug, Drop, Error)]
@@ -20,6 +22,8 @@ enum Stop {
     Usage,
     #[error("simbox: {0}\n")]
     Sheet(#[from] SheetError),
+    #[error("simbox: {0}\n")]
+    Trial(#[from] Failure),
     #[error("simbox: {0}\n")]
     Io(#[from] io::Error),
     // A card that cannot be written.
@@ -56,6 +60,20 @@ fn write_images(rt: &HostRuntime, data: String, tree: String) -> Result<(), Stop
     Ok(())
 }
 
+fn print_load(rt: &HostRuntime) -> Result<(), Stop> {
+    let text = sheet(rt)?;
+    let report = load(rt.alloc(), text.as_slice())?;
+    rt.print(report)?;
+    Ok(())
+}
+
+fn print_drill(rt: &HostRuntime) -> Result<(), Stop> {
+    let text = sheet(rt)?;
+    let report = drill(rt.alloc(), text.as_slice())?;
+    rt.print(report)?;
+    Ok(())
+}
+
 // Why the arguments cannot be had. One that is not UTF-8 is no word of this program, as any other that it does not know.
 fn no_words(error: io::Error) -> Stop {
     match error.kind() {
@@ -72,6 +90,8 @@ fn run(rt: &HostRuntime) -> Result<(), Stop> {
     };
     match (word.as_str(), data, tree) {
         ("label", None, None) => print_label(rt),
+        ("load", None, None) => print_load(rt),
+        ("drill", None, None) => print_drill(rt),
         ("images", Some(data), Some(tree)) => write_images(rt, data, tree),
         ("--help", None, None) => {
             rt.print(USAGE)?;
