@@ -13,3 +13,7 @@ mod sheets;
 mod sims;
 #[cfg(test)]
 mod trees;
+#[cfg(test)]
+mod trials;
+#[cfg(test)]
+mod volumes;
