@@ -1,5 +1,5 @@
 -- Why a device refuses, and how a fault climbs from the layer where it starts to the top of the pile.
-use Rattle.std.specs.Prelude.{ℕ, ◌+◌, min, Result, Ok, Err}
+use Rattle.std.specs.Prelude.{ℕ, ◌+◌, min, cond, nat_eq, Result, Ok, Err}
 use Rattle.device.specs.declared.fault.Cause.{Cause}
 use Rattle.device.specs.declared.fault.Cause.TheVariants.{PastEnd, PastWays, Medium}
 use Rattle.device.specs.declared.fault.Fault.{Fault}
@@ -10,17 +10,22 @@ cause_number PastEnd = 1
 cause_number PastWays = 2
 cause_number Medium = 3
 
--- a number past the end: its place is the number
+-- the cause that has this number, 1 to 3
+abbrev pub cause_of : ℕ → Cause
+cause_of k =
+    cond (nat_eq (cause_number PastEnd) k) PastEnd (cond (nat_eq (cause_number PastWays) k) PastWays Medium)
+
+-- a number past the end, cause 1: its place is the number
 abbrev pub past_end : ℕ → Fault
-past_end n = record { cause = PastEnd; place = n; climbed = 0 }
+past_end n = record { cause = cause_of 1; place = n; climbed = 0 }
 
--- a way past the ways: its place is the way
+-- a way past the ways, cause 2: its place is the way
 abbrev pub past_ways : ℕ → Fault
-past_ways w = record { cause = PastWays; place = w; climbed = 0 }
+past_ways w = record { cause = cause_of 2; place = w; climbed = 0 }
 
--- a medium that refuses: its place is the medium's own number of the block
+-- a medium that refuses, cause 3: its place is the medium's own number of the block
 abbrev pub refused : ℕ → Fault
-refused n = record { cause = Medium; place = n; climbed = 0 }
+refused n = record { cause = cause_of 3; place = n; climbed = 0 }
 
 -- a fault has climbed one more where a layer passes it up, 255 at most
 abbrev pub higher : Fault → Fault

@@ -1,5 +1,5 @@
 // Why a device refuses.
-ghost use Rattle.std.specs.Prelude.{◌≡◌};
+ghost use Rattle.std.specs.Prelude.{◌≡◌, ◌≤◌};
 ghost use Rattle.device.specs.Faults.{past_end, past_ways, refused, higher};
 
 #[derive(Clone, Copy, PartialEq, Eq, Debug)]
@@ -16,7 +16,8 @@ impl Cause {
     ghost use Rattle.device.specs.Faults.{cause_number};
 
     pub fn number(self) -> u8
-        ensures { result ≡ cause_number self }
+        ensures value { result ≡ cause_number self }
+        ensures range { (1 ≤ result) × (result ≤ 3) }
     {
         self as u8
     }

@@ -69,8 +69,11 @@ pub struct SaltedSha256 {
 }
 
 impl SaltedSha256 {
+    // The hash after a salt. The clauses give its kind and its length by number.
     pub fn new(salt: [u8; 16]) -> SaltedSha256
-        ensures { result.salt ≡ salt }
+        ensures salt { result.salt ≡ salt }
+        ensures kind { ⟦<SaltedSha256 as Hash>⟧.KIND ≡ 1 }
+        ensures length { ⟦<SaltedSha256 as Hash>⟧.LENGTH ≡ 32 }
     {
         SaltedSha256 { salt }
     }

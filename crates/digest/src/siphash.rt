@@ -110,9 +110,11 @@ pub struct SipHash {
 }
 
 impl SipHash {
-    // The hash under a key, whose first byte is the least significant of k0.
+    // The hash under a key, whose first byte is the least significant of k0. The clauses give its kind and its length by number.
     pub fn new(key: [u8; 16]) -> SipHash
-        ensures { result.key ≡ key }
+        ensures key { result.key ≡ key }
+        ensures kind { ⟦<SipHash as Hash>⟧.KIND ≡ 2 }
+        ensures length { ⟦<SipHash as Hash>⟧.LENGTH ≡ 8 }
     {
         SipHash { key }
     }
@@ -139,7 +141,7 @@ impl Hash for SipHash {
     fn image_of(&self, block: &[u8; 512]) -> [u8; 32] {
         // A fixed block, without the heap.
         let mut cell = [0u8; 32];
-        cell[0..8].copy_from_slice(&siphash_2_4(&self.key, block).to_le_bytes());
+        cell[0..Self::LENGTH].copy_from_slice(&siphash_2_4(&self.key, block).to_le_bytes());
         cell
     }
 }

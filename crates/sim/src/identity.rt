@@ -1,5 +1,9 @@
 // The identity of a SIM: an IMSI or an ICCID.
-ghost use Rattle.std.specs.Prelude.{◌≡◌, ◌≤◌, true, false, length, Some, MatchOption};
+ghost use Rattle.std.specs.Prelude.{◌≡◌, ◌≤◌, ◌==◌, ◌↔◌, IsTrue, true, false, length, Some, MatchOption};
+ghost use Rattle.std.specs.Cmp.Lexicographic.{pointwise};
+ghost use Rattle.std.specs.Cmp.Rules.{comparing};
+ghost use Rattle.std.specs.Ordering.{on};
+ghost use Rattle.std.proofs.Common.{rules};
 ghost use Rattle.sim.specs.Identity.{all_zero, digit_run, is_padded, is_identity, padded, unpadded};
 
 use std::fmt;
@@ -20,7 +24,7 @@ fn is_zero(bytes: &[u8]) -> bool
 }
 
 // 6 to 20 decimal digits, held as they stand in a block: in ASCII, zeros after the last.
-#[derive(Clone, Copy, PartialEq, Eq, Debug)]
+#[derive(Clone, Copy, Eq, Debug)]
 pub struct Identity {
     digits: [u8; 20],
     ghost ok: { is_padded digits ≡ true },
@@ -65,6 +69,20 @@ impl Identity {
         ensures { result ≡ self.now.digits }
     {
         self.digits
+    }
+}
+
+// Two identities are one where their digits are. By hand, since a derived `==` carries no clause of its own.
+impl PartialEq for Identity {
+    ghost eq = { on (λ i. i.digits) (pointwise ◌==◌) };
+
+    ghost laws = { Prim.search (comparing, rules) };
+
+    fn eq(&self, other: &Identity) -> bool
+        ensures value { result ≡ pointwise ◌==◌ self.now.digits other.now.digits }
+        ensures digits { IsTrue result ↔ self.now.digits ≡ other.now.digits }
+    {
+        self.digits == other.digits
     }
 }
 
