@@ -1,27 +1,18 @@
 -- What the checks of the calls say where they pass, and that they pass where they have to.
-use Rattle.std.proofs.Common.{◌≡◌, ℕ, zero, suc, ◌<◌, ◌≤◌, Bool, true, false, cond, ◌&&◌, Option, None, Some, List, Result, Ok, Err, MatchResult, refl, sym, ap, ◌∙◌, subst}
+use Rattle.std.proofs.Common.{◌≡◌, ℕ, zero, suc, ◌<◌, ◌≤◌, Bool, true, false, ◌&&◌, Option, None, Some, List, Result, Ok, Err, MatchResult, refl, sym, ap, ◌∙◌, subst, arith}
 use Rattle.std.proofs.lemmas.Bool.{and_from, and_parts, cond_both, cond-false, cond-true, eq-eqb, eqb-true, le-ltb, lt-ltb, ltb-false, ltb-true}
 use Rattle.std.specs.Prelude.{is_some, nat_eq, nat_lt}
 use Rattle.device.specs.Meaning.{Meaning}
 use Rattle.device.specs.Zeros.{zeros}
 use Rattle.geometry.specs.Geometry.{total}
-use Rattle.volume.specs.declared.refusal.Failed.{Failed}
-use Rattle.volume.specs.declared.refusal.Refusal.{Refusal}
-use Rattle.volume.specs.declared.refusal.Refusal.TheVariants.{SlipOut, WrongSlip}
-use Rattle.volume.specs.Calls.{Putting, Writing}
-use Rattle.volume.specs.Checks.{after, areas_check, begin_check, need, look_check, next, open_check, read_check, register_check, slip_check, when_closed, when_open, write_check}
-use Rattle.volume.specs.Ledger.{is_unwritten, walked}
-use Rattle.volume.specs.Refusals.{carried}
-use Rattle.volume.specs.View.{Open, View}
-use Rattle.volume.specs.Walk.{Fetched, FetchedBlock, Walked}
+use Rattle.volume.specs.Checks.{after, areas_check, begin_check, counts_check, format_check, look_check, need, next, open_check, read_check, register_check, slip_check, unless, when_closed, when_open, write_check}
+use Rattle.volume.specs.Ledger.{walked}
+use Rattle.volume.specs.Refusals.{Reason, Stuck, plain}
+use Rattle.volume.specs.View.{Open}
 use Rattle.volume.specs.Writes.{unwritten}
-use Rattle.volume.proofs.Descents.{ok_not_err}
 use Rattle.volume.proofs.Logs.{tried_elim}
-
--- an answer is one of two
-pub either : {A E : Type 0} (C : Type 0) (r : Result A E) → ((a : A) → r ≡ Ok a → C) → ((e : E) → r ≡ Err e → C) → C
-either C (Ok a) passed refused = passed a refl
-either C (Err e) passed refused = refused e refl
+use Rattle.volume.proofs.Meant.{Fetched, FetchedBlock, Walked}
+use Rattle.volume.proofs.Results.{ok_not_err}
 
 abbrev open_in : Open → Option Open → Open
 open_in d None = d
@@ -30,20 +21,36 @@ open_in d (Some p) = p
 pub same_open : (p q : Open) → Some p ≡ Some q → p ≡ q
 same_open p q same = ap (open_in p) same
 
-pub none_not_some : {A : Type 0} (a : A) → None ≡ Some a → ⊥
-none_not_some a same = cc
+need_ok : {A : Type 0} (holds : Bool) (number : ℕ) (others : Result A Reason) (a : A) → need holds number others ≡ Ok a → (holds ≡ true) × (others ≡ Ok a)
+need_ok true number others a is = (refl, is)
+need_ok false number others a is = absurd (ok_not_err a (plain number) (sym is))
 
-demand_ok : {A : Type 0} (holds : Bool) (refusal : Refusal) (others : Result A Refusal) (a : A) → need holds refusal others ≡ Ok a → (holds ≡ true) × (others ≡ Ok a)
-demand_ok true refusal others a is = (refl, is)
-demand_ok false refusal others a is = absurd (ok_not_err a refusal (sym is))
+unless_ok : {A : Type 0} (fails : Bool) (number : ℕ) (others : Result A Reason) (a : A) → unless fails number others ≡ Ok a → (fails ≡ false) × (others ≡ Ok a)
+unless_ok true number others a is = absurd (ok_not_err a (plain number) (sym is))
+unless_ok false number others a is = (refl, is)
 
-unless_ok : {A : Type 0} (holds : Bool) (refusal : Refusal) (others : Result A Refusal) (a : A) → cond holds (Err refusal) others ≡ Ok a → (holds ≡ false) × (others ≡ Ok a)
-unless_ok true refusal others a is = absurd (ok_not_err a refusal (sym is))
-unless_ok false refusal others a is = (refl, is)
-
-next_ok : {A : Type 0} (first : Result Unit Refusal) (others : Result A Refusal) (a : A) → next first others ≡ Ok a → (first ≡ Ok tt) × (others ≡ Ok a)
+next_ok : {A : Type 0} (first : Result Unit Reason) (others : Result A Reason) (a : A) → next first others ≡ Ok a → (first ≡ Ok tt) × (others ≡ Ok a)
 next_ok (Ok done) others a is = (refl, is)
-next_ok (Err refusal) others a is = absurd (ok_not_err a refusal (sym is))
+next_ok (Err e) others a is = absurd (ok_not_err a e (sym is))
+
+next_pass : {A : Type 0} (first : Result Unit Reason) (others : Result A Reason) → first ≡ Ok tt → next first others ≡ others
+next_pass {A} first others is = ap (λ r. next {A = A} r others) is
+
+-- only an open volume passes what asks for one
+open_ok_at : {A : Type 0} (present : Option Open) (others : Open → Result A Reason) (a : A) → when_open present others ≡ Ok a → (p : Open) × (present ≡ Some p) × (others p ≡ Ok a)
+open_ok_at None others a is = absurd (ok_not_err a (plain 40) (sym is))
+open_ok_at (Some p) others a is = (p, refl, is)
+
+open_pass_at : {A : Type 0} (present : Option Open) (others : Open → Result A Reason) (p : Open) → present ≡ Some p → when_open present others ≡ others p
+open_pass_at {A} present others p here = ap (λ o. when_open {A = A} o others) here
+
+-- and only a closed one what asks for that
+closed_ok : {A : Type 0} (present : Option Open) (others : Result A Reason) (a : A) → when_closed present others ≡ Ok a → (present ≡ None) × (others ≡ Ok a)
+closed_ok None others a is = (refl, is)
+closed_ok (Some p) others a is = absurd (ok_not_err a (plain 41) (sym is))
+
+closed_pass : {A : Type 0} (present : Option Open) (others : Result A Reason) → present ≡ None → when_closed present others ≡ others
+closed_pass {A} present others here = ap (λ o. when_closed {A = A} o others) here
 
 -- the areas are right, and the number is that of a block
 pub record Fit (blocks n block_length log_length : ℕ) : Type 0 where
@@ -53,77 +60,80 @@ pub record Fit (blocks n block_length log_length : ℕ) : Type 0 where
 
 areas_ok : (blocks n block_length log_length : ℕ) → areas_check blocks n block_length log_length ≡ Ok tt → Fit blocks n block_length log_length
 areas_ok blocks n block_length log_length is =
-    let one = demand_ok (nat_eq block_length 512) _ _ tt is in
-    let two = demand_ok (nat_eq log_length 2048) _ _ tt one.1 in
-    let three = demand_ok (nat_lt n blocks) _ _ tt two.1 in
+    let one = need_ok (nat_eq block_length 512) _ _ tt is in
+    let two = need_ok (nat_eq log_length 2048) _ _ tt one.1 in
+    let three = need_ok (nat_lt n blocks) _ _ tt two.1 in
     record { block_area = eqb-true block_length 512 one.0; record_area = eqb-true log_length 2048 two.0; inside = ltb-true n blocks three.0 }
 
 areas_pass : (blocks n block_length log_length : ℕ) → Fit blocks n block_length log_length → areas_check blocks n block_length log_length ≡ Ok tt
 areas_pass blocks n block_length log_length fit =
     cond-true (nat_eq block_length 512) _ _ (eq-eqb block_length 512 fit.block_area) ∙ (cond-true (nat_eq log_length 2048) _ _ (eq-eqb log_length 2048 fit.record_area) ∙ cond-true (nat_lt n blocks) _ _ (lt-ltb n blocks fit.inside))
 
-next_pass : {A : Type 0} (first : Result Unit Refusal) (others : Result A Refusal) → first ≡ Ok tt → next first others ≡ others
-next_pass {A} first others is = ap (λ r. next {A = A} r others) is
+-- an open volume that passes a check with more checks after it
+fit_ok : (n block_length log_length : ℕ) (q p : Open) → next (areas_check q.blocks n block_length log_length) (Ok q) ≡ Ok p → (q ≡ p) × Fit p.blocks n block_length log_length
+fit_ok n block_length log_length q p is =
+    let parts = next_ok (areas_check q.blocks n block_length log_length) (Ok q) p is in
+    let same : Some q ≡ Some p = cc in
+    let here : q ≡ p = same_open q p same in
+    (here, subst (λ o. Fit o.blocks n block_length log_length) here (areas_ok q.blocks n block_length log_length parts.0))
 
-module _ (v : View) (p : Open) where
+fit_pass : (n block_length log_length : ℕ) (p : Open) → Fit p.blocks n block_length log_length → next (areas_check p.blocks n block_length log_length) (Ok p) ≡ Ok p
+fit_pass n block_length log_length p fit = next_pass (areas_check p.blocks n block_length log_length) (Ok p) (areas_pass p.blocks n block_length log_length fit)
+
+module _ (present : Option Open) (p : Open) where
   -- an open volume with no slip out
-  begin_at : (o : Option Open) → when_open o (λ q. cond q.slip_out (Err SlipOut) (Ok q)) ≡ Ok p → (o ≡ Some p) × (p.slip_out ≡ false)
-  begin_at None is = absurd (ok_not_err p _ (sym is))
-  begin_at (Some q) is =
-      let parts = unless_ok q.slip_out SlipOut (Ok q) p is in let same : Some q ≡ Some p = cc in let here : q ≡ p = same_open q p same in (same, sym (ap (λ o. o.slip_out) here) ∙ parts.0)
-
-  pub begin_ok : begin_check v ≡ Ok p → (v.present ≡ Some p) × (p.slip_out ≡ false)
-  begin_ok is = begin_at v.present is
-
-  read_at : (n block_length log_length : ℕ) (o : Option Open) → when_open o (λ q. next (areas_check q.blocks n block_length log_length) (Ok q)) ≡ Ok p → (o ≡ Some p) × Fit p.blocks n block_length log_length
-  read_at n block_length log_length None is = absurd (ok_not_err p _ (sym is))
-  read_at n block_length log_length (Some q) is =
-      let parts = next_ok (areas_check q.blocks n block_length log_length) (Ok q) p is in
+  pub begin_ok : begin_check present ≡ Ok p → (present ≡ Some p) × (p.slip_out ≡ false)
+  begin_ok is =
+      let found = open_ok_at present (λ q. unless q.slip_out 42 (Ok q)) p is in
+      let q : Open = found.0 in
+      let parts = unless_ok q.slip_out 42 (Ok q) p found.2 in
       let same : Some q ≡ Some p = cc in
       let here : q ≡ p = same_open q p same in
-      (same, subst (λ o. Fit o.blocks n block_length log_length) here (areas_ok q.blocks n block_length log_length parts.0))
+      (found.1 ∙ same, sym (ap (λ o. o.slip_out) here) ∙ parts.0)
+
+  pub begin_pass : present ≡ Some p → p.slip_out ≡ false → begin_check present ≡ Ok p
+  begin_pass here none_out = open_pass_at present (λ q. unless q.slip_out 42 (Ok q)) p here ∙ cond-false p.slip_out _ _ none_out
 
   -- an open volume, right areas, and the number of a block
-  pub read_ok : (n block_length log_length : ℕ) → read_check v n block_length log_length ≡ Ok p → (v.present ≡ Some p) × Fit p.blocks n block_length log_length
-  read_ok n block_length log_length is = read_at n block_length log_length v.present is
+  pub read_ok : (n block_length log_length : ℕ) → read_check present n block_length log_length ≡ Ok p → (present ≡ Some p) × Fit p.blocks n block_length log_length
+  read_ok n block_length log_length is =
+      let found = open_ok_at present (λ q. next (areas_check q.blocks n block_length log_length) (Ok q)) p is in
+      let parts = fit_ok n block_length log_length found.0 p found.2 in
+      (found.1 ∙ ap Some parts.0, parts.1)
 
-  pub read_pass : (n block_length log_length : ℕ) → v.present ≡ Some p → Fit p.blocks n block_length log_length → read_check v n block_length log_length ≡ Ok p
-  read_pass n block_length log_length here fit =
-      ap (λ o. when_open o (λ q. next (areas_check q.blocks n block_length log_length) (Ok q))) here ∙ next_pass (areas_check p.blocks n block_length log_length) (Ok p) (areas_pass p.blocks n block_length log_length fit)
+  pub read_pass : (n block_length log_length : ℕ) → present ≡ Some p → Fit p.blocks n block_length log_length → read_check present n block_length log_length ≡ Ok p
+  read_pass n block_length log_length here fit = open_pass_at present (λ q. next (areas_check q.blocks n block_length log_length) (Ok q)) p here ∙ fit_pass n block_length log_length p fit
 
-  slip_at : (slip : ℕ) (o : Option Open) → when_open o (λ q. need (q.slip_out && nat_eq slip v.number) WrongSlip (Ok q)) ≡ Ok p → (o ≡ Some p) × (p.slip_out ≡ true)
-  slip_at slip None is = absurd (ok_not_err p _ (sym is))
-  slip_at slip (Some q) is =
-      let parts = demand_ok (q.slip_out && nat_eq slip v.number) WrongSlip (Ok q) p is in
-      let same : Some q ≡ Some p = cc in
-      let here : q ≡ p = same_open q p same in
-      (same, sym (ap (λ o. o.slip_out) here) ∙ (and_parts q.slip_out (nat_eq slip v.number) parts.0).0)
+  module _ (number slip : ℕ) where
+    -- an open volume with this slip out
+    pub slip_ok : slip_check present number slip ≡ Ok p → (present ≡ Some p) × (p.slip_out ≡ true) × (slip ≡ number)
+    slip_ok is =
+        let found = open_ok_at present (λ q. need (q.slip_out && nat_eq slip number) 43 (Ok q)) p is in
+        let q : Open = found.0 in
+        let parts = need_ok (q.slip_out && nat_eq slip number) 43 (Ok q) p found.2 in
+        let both = and_parts q.slip_out (nat_eq slip number) parts.0 in
+        let same : Some q ≡ Some p = cc in
+        let here : q ≡ p = same_open q p same in
+        (found.1 ∙ same, sym (ap (λ o. o.slip_out) here) ∙ both.0, eqb-true slip number both.1)
 
-  -- an open volume with a slip out
-  pub slip_ok : (slip : ℕ) → slip_check v slip ≡ Ok p → (v.present ≡ Some p) × (p.slip_out ≡ true)
-  slip_ok slip is = slip_at slip v.present is
+    pub slip_pass : present ≡ Some p → p.slip_out ≡ true → slip ≡ number → slip_check present number slip ≡ Ok p
+    slip_pass here out same =
+        open_pass_at present (λ q. need (q.slip_out && nat_eq slip number) 43 (Ok q)) p here
+        ∙ cond-true (p.slip_out && nat_eq slip number) _ _ (and_from p.slip_out (nat_eq slip number) out (eq-eqb slip number same))
 
-  pub slip_pass : (slip : ℕ) → v.present ≡ Some p → p.slip_out ≡ true → slip ≡ v.number → slip_check v slip ≡ Ok p
-  slip_pass slip here out same =
-      ap (λ o. when_open o (λ q. need (q.slip_out && nat_eq slip v.number) WrongSlip (Ok q))) here
-      ∙ cond-true (p.slip_out && nat_eq slip v.number) _ _ (and_from p.slip_out (nat_eq slip v.number) out (eq-eqb slip v.number same))
+    after_ok : (n block_length log_length : ℕ) (r : Result Open Reason) → after r (λ q. next (areas_check q.blocks n block_length log_length) (Ok q)) ≡ Ok p → (r ≡ Ok p) × Fit p.blocks n block_length log_length
+    after_ok n block_length log_length (Err e) is = absurd (ok_not_err p e (sym is))
+    after_ok n block_length log_length (Ok q) is = let parts = fit_ok n block_length log_length q p is in (ap Ok parts.0, parts.1)
 
-  after_at : (n block_length log_length : ℕ) (r : Result Open Refusal) → after r (λ q. next (areas_check q.blocks n block_length log_length) (Ok q)) ≡ Ok p → (r ≡ Ok p) × Fit p.blocks n block_length log_length
-  after_at n block_length log_length (Err e) is = absurd (ok_not_err p e (sym is))
-  after_at n block_length log_length (Ok q) is =
-      let parts = next_ok (areas_check q.blocks n block_length log_length) (Ok q) p is in
-      let same : Some q ≡ Some p = cc in
-      let here : q ≡ p = same_open q p same in
-      (ap Ok here, subst (λ o. Fit o.blocks n block_length log_length) here (areas_ok q.blocks n block_length log_length parts.0))
+    -- that, and right areas and the number of a block
+    pub write_ok : (n block_length log_length : ℕ) → write_check present number slip n block_length log_length ≡ Ok p
+        → (present ≡ Some p) × (p.slip_out ≡ true) × (slip ≡ number) × Fit p.blocks n block_length log_length
+    write_ok n block_length log_length is =
+        let parts = after_ok n block_length log_length (slip_check present number slip) is in let held = slip_ok parts.0 in (held.0, held.1, held.2, parts.1)
 
-  -- that, and right areas and the number of a block
-  pub write_ok : (slip n block_length log_length : ℕ) → write_check v slip n block_length log_length ≡ Ok p → (v.present ≡ Some p) × (p.slip_out ≡ true) × Fit p.blocks n block_length log_length
-  write_ok slip n block_length log_length is = let parts = after_at n block_length log_length (slip_check v slip) is in let held = slip_ok slip parts.0 in (held.0, held.1, parts.1)
-
-  pub write_pass : (slip n block_length log_length : ℕ) → v.present ≡ Some p → p.slip_out ≡ true → slip ≡ v.number → Fit p.blocks n block_length log_length → write_check v slip n block_length log_length ≡ Ok p
-  write_pass slip n block_length log_length here out same fit =
-      ap (λ r. after r (λ q. next (areas_check q.blocks n block_length log_length) (Ok q))) (slip_pass slip here out same)
-      ∙ next_pass (areas_check p.blocks n block_length log_length) (Ok p) (areas_pass p.blocks n block_length log_length fit)
+    pub write_pass : (n block_length log_length : ℕ) → present ≡ Some p → p.slip_out ≡ true → slip ≡ number → Fit p.blocks n block_length log_length → write_check present number slip n block_length log_length ≡ Ok p
+    write_pass n block_length log_length here out same fit =
+        ap (λ r. after r (λ q. next (areas_check q.blocks n block_length log_length) (Ok q))) (slip_pass here out same) ∙ fit_pass n block_length log_length p fit
 
 -- the register was formatted, and the devices have the counts that it asks for
 pub record Registered (blocks kind hash_kind store_blocks tree_blocks : ℕ) : Type 0 where
@@ -134,9 +144,9 @@ pub record Registered (blocks kind hash_kind store_blocks tree_blocks : ℕ) : T
 
 register_ok : (blocks kind hash_kind store_blocks tree_blocks : ℕ) → register_check blocks kind hash_kind store_blocks tree_blocks ≡ Ok tt → Registered blocks kind hash_kind store_blocks tree_blocks
 register_ok blocks kind hash_kind store_blocks tree_blocks is =
-    let one = demand_ok (nat_lt 0 blocks) _ _ tt is in
-    let two = demand_ok (nat_eq kind hash_kind) _ _ tt one.1 in
-    let three = demand_ok (nat_eq store_blocks blocks) _ _ tt two.1 in
+    let one = need_ok (nat_lt 0 blocks) _ _ tt is in
+    let two = need_ok (nat_eq kind hash_kind) _ _ tt one.1 in
+    let three = need_ok (nat_eq store_blocks blocks) _ _ tt two.1 in
     let four = unless_ok (nat_lt tree_blocks (total blocks)) _ _ tt three.1 in
     record { formatted = ltb-true 0 blocks one.0; of_kind = eqb-true kind hash_kind two.0; store_count = eqb-true store_blocks blocks three.0; tree_count = ltb-false tree_blocks (total blocks) four.0 }
 
@@ -145,14 +155,44 @@ register_pass blocks kind hash_kind store_blocks tree_blocks r =
     cond-true (nat_lt 0 blocks) _ _ (lt-ltb 0 blocks r.formatted)
     ∙ (cond-true (nat_eq kind hash_kind) _ _ (eq-eqb kind hash_kind r.of_kind) ∙ (cond-true (nat_eq store_blocks blocks) _ _ (eq-eqb store_blocks blocks r.store_count) ∙ cond-false (nat_lt tree_blocks (total blocks)) _ _ (le-ltb tree_blocks (total blocks) r.tree_count)))
 
-open_at : (o : Option Open) (others : Result Unit Refusal) → when_closed o others ≡ Ok tt → (o ≡ None) × (others ≡ Ok tt)
-open_at None others is = (refl, is)
-open_at (Some p) others is = absurd (ok_not_err tt _ (sym is))
+-- the devices have counts that may be formatted
+pub record MayFormat (store_blocks tree_blocks : ℕ) : Type 0 where
+  pub least : 1 ≤ store_blocks
+  pub most : store_blocks ≤ 4096
+  pub tree_count : total store_blocks ≤ tree_blocks
 
--- a closed volume, and such a register
-pub open_ok : (v : View) (blocks kind : ℕ) → open_check v blocks kind ≡ Ok tt → (v.present ≡ None) × Registered blocks kind v.kind v.store.blocks v.tree.blocks
-open_ok v blocks kind is =
-    let parts = open_at v.present (register_check blocks kind v.kind v.store.blocks v.tree.blocks) is in (parts.0, register_ok blocks kind v.kind v.store.blocks v.tree.blocks parts.1)
+counts_ok : (store_blocks tree_blocks : ℕ) → counts_check store_blocks tree_blocks ≡ Ok tt → MayFormat store_blocks tree_blocks
+counts_ok store_blocks tree_blocks is =
+    let one = need_ok (nat_lt 0 store_blocks && nat_lt store_blocks 4097) _ _ tt is in
+    let both = and_parts (nat_lt 0 store_blocks) (nat_lt store_blocks 4097) one.0 in
+    let two = unless_ok (nat_lt tree_blocks (total store_blocks)) _ _ tt one.1 in
+    let low : 0 < store_blocks = ltb-true 0 store_blocks both.0 in
+    let high : store_blocks < 4097 = ltb-true store_blocks 4097 both.1 in
+    record { least = omega arith; most = omega arith; tree_count = ltb-false tree_blocks (total store_blocks) two.0 }
+
+counts_pass : (store_blocks tree_blocks : ℕ) → MayFormat store_blocks tree_blocks → counts_check store_blocks tree_blocks ≡ Ok tt
+counts_pass store_blocks tree_blocks may =
+    let low : 0 < store_blocks = omega (arith, may.least) in
+    let high : store_blocks < 4097 = omega (arith, may.most) in
+    cond-true (nat_lt 0 store_blocks && nat_lt store_blocks 4097) _ _ (and_from (nat_lt 0 store_blocks) (nat_lt store_blocks 4097) (lt-ltb 0 store_blocks low) (lt-ltb store_blocks 4097 high))
+    ∙ cond-false (nat_lt tree_blocks (total store_blocks)) _ _ (le-ltb tree_blocks (total store_blocks) may.tree_count)
+
+module _ (present : Option Open) where
+  -- a closed volume, and such a register
+  pub open_ok : (blocks kind hash_kind store_blocks tree_blocks : ℕ) → open_check present blocks kind hash_kind store_blocks tree_blocks ≡ Ok tt → (present ≡ None) × Registered blocks kind hash_kind store_blocks tree_blocks
+  open_ok blocks kind hash_kind store_blocks tree_blocks is =
+      let parts = closed_ok present (register_check blocks kind hash_kind store_blocks tree_blocks) tt is in (parts.0, register_ok blocks kind hash_kind store_blocks tree_blocks parts.1)
+
+  pub open_pass : (blocks kind hash_kind store_blocks tree_blocks : ℕ) → present ≡ None → Registered blocks kind hash_kind store_blocks tree_blocks → open_check present blocks kind hash_kind store_blocks tree_blocks ≡ Ok tt
+  open_pass blocks kind hash_kind store_blocks tree_blocks here r =
+      closed_pass present (register_check blocks kind hash_kind store_blocks tree_blocks) here ∙ register_pass blocks kind hash_kind store_blocks tree_blocks r
+
+  -- a closed volume, and counts that may be formatted
+  pub format_ok : (store_blocks tree_blocks : ℕ) → format_check present store_blocks tree_blocks ≡ Ok tt → (present ≡ None) × MayFormat store_blocks tree_blocks
+  format_ok store_blocks tree_blocks is = let parts = closed_ok present (counts_check store_blocks tree_blocks) tt is in (parts.0, counts_ok store_blocks tree_blocks parts.1)
+
+  pub format_pass : (store_blocks tree_blocks : ℕ) → present ≡ None → MayFormat store_blocks tree_blocks → format_check present store_blocks tree_blocks ≡ Ok tt
+  format_pass store_blocks tree_blocks here may = closed_pass present (counts_check store_blocks tree_blocks) here ∙ counts_pass store_blocks tree_blocks may
 
 -- what look looks at passes
 pub look_pass : (blocks kind hash_kind store_blocks tree_blocks n block_length log_length : ℕ) → Registered blocks kind hash_kind store_blocks tree_blocks → Fit blocks n block_length log_length
@@ -162,73 +202,62 @@ look_pass blocks kind hash_kind store_blocks tree_blocks n block_length log_leng
     ∙ areas_pass blocks n block_length log_length fit
 
 -- if it is a refusal, it is none of an unwritten block
-abbrev pub Mild : {A : Type 0} → Result A Refusal → Type 0
-Mild r = MatchResult r (λ a. Unit {0}) (λ e. is_unwritten e ≡ false)
+abbrev pub Mild : {A : Type 0} → Result A Reason → Type 0
+Mild r = MatchResult r (λ a. Unit {0}) (λ e. nat_eq e.number 53 ≡ false)
 
-pub mild_err : {A : Type 0} (r : Result A Refusal) (e : Refusal) → Mild r → r ≡ Err e → is_unwritten e ≡ false
-mild_err {A} r e mild is = let P : Result A Refusal → Type 0 = λ x. Mild x in subst P is mild
+pub mild_err : {A : Type 0} (r : Result A Reason) (e : Reason) → Mild r → r ≡ Err e → nat_eq e.number 53 ≡ false
+mild_err {A} r e mild is = let P : Result A Reason → Type 0 = λ x. Mild x in subst P is mild
 
 mild_areas : {A : Type 0} (blocks n block_length log_length : ℕ) (a : A) → Mild (next (areas_check blocks n block_length log_length) (Ok a))
 mild_areas {A} blocks n block_length log_length a =
-    let P : Result Unit Refusal → Type 0 = λ r. Mild (next {A = A} r (Ok a)) in
+    let P : Result Unit Reason → Type 0 = λ r. Mild (next {A = A} r (Ok a)) in
     cond_both (nat_eq block_length 512) _ _ P (λ one. cond_both (nat_eq log_length 2048) _ _ P (λ two. cond_both (nat_lt n blocks) _ _ P (λ three. tt) (λ no. refl)) (λ no. refl)) (λ no. refl)
 
-mild_slip : (v : View) (slip : ℕ) (o : Option Open) → Mild (when_open o (λ q. need (q.slip_out && nat_eq slip v.number) WrongSlip (Ok q)))
-mild_slip v slip None = refl
-mild_slip v slip (Some q) = let P : Result Open Refusal → Type 0 = λ r. Mild r in cond_both (q.slip_out && nat_eq slip v.number) _ _ P (λ yes. tt) (λ no. refl)
+mild_slip : (number slip : ℕ) (present : Option Open) → Mild (slip_check present number slip)
+mild_slip number slip None = refl
+mild_slip number slip (Some q) = let P : Result Open Reason → Type 0 = λ r. Mild r in cond_both (q.slip_out && nat_eq slip number) _ _ P (λ yes. tt) (λ no. refl)
 
-mild_after : (n block_length log_length : ℕ) (r : Result Open Refusal) → Mild r → Mild (after r (λ q. next (areas_check q.blocks n block_length log_length) (Ok q)))
+mild_after : (n block_length log_length : ℕ) (r : Result Open Reason) → Mild r → Mild (after r (λ q. next (areas_check q.blocks n block_length log_length) (Ok q)))
 mild_after n block_length log_length (Err e) mild = mild
 mild_after n block_length log_length (Ok q) mild = mild_areas q.blocks n block_length log_length q
 
 -- no check of a write refuses with an unwritten block
-pub mild_write : (v : View) (slip n block_length log_length : ℕ) → Mild (write_check v slip n block_length log_length)
-mild_write v slip n block_length log_length = mild_after n block_length log_length (slip_check v slip) (mild_slip v slip v.present)
-
--- nor does its walk
-pub mild_walk : (image : List ℕ → List ℕ) (m : Meaning) (blocks n l : ℕ) (expected log : List ℕ) (answer : Result (List ℕ) Refusal) (left : List ℕ) → Walked image m blocks n l expected log answer left → Mild answer
-mild_walk image m blocks n zero expected log answer left w = let P : Result (List ℕ) Refusal → Type 0 = λ r. Mild r in subst P (sym w.0) tt
-mild_walk image m blocks n (suc l) expected log answer left w =
-    let P : Result (List ℕ) Refusal → Type 0 = λ r. Mild r in
-    tried_elim image (Mild answer) w (λ bytes passes rest. mild_walk image m blocks n l _ _ answer left rest) (λ why none stuck. subst P (sym stuck.0) refl)
+pub mild_write : (present : Option Open) (number slip n block_length log_length : ℕ) → Mild (write_check present number slip n block_length log_length)
+mild_write present number slip n block_length log_length = mild_after n block_length log_length (slip_check present number slip) (mild_slip number slip present)
 
 -- if it is a refusal, it is one of a call that got past its checks
-abbrev Past : {A : Type 0} → Result A Refusal → Type 0
-Past r = MatchResult r (λ a. Unit {0}) (λ e. is_some (carried e) ≡ true)
+abbrev pub Past : {A : Type 0} → Result A Reason → Type 0
+Past r = MatchResult r (λ a. Unit {0}) (λ e. is_some e.stuck ≡ true)
 
-past_walk : (image : List ℕ → List ℕ) (m : Meaning) (blocks n l : ℕ) (expected log : List ℕ) (answer : Result (List ℕ) Refusal) (left : List ℕ) → Walked image m blocks n l expected log answer left → Past answer
-past_walk image m blocks n zero expected log answer left w = let P : Result (List ℕ) Refusal → Type 0 = λ r. Past r in subst P (sym w.0) tt
-past_walk image m blocks n (suc l) expected log answer left w =
-    let P : Result (List ℕ) Refusal → Type 0 = λ r. Past r in
-    tried_elim image (Past answer) w (λ bytes passes rest. past_walk image m blocks n l _ _ answer left rest) (λ why none stuck. subst P (sym stuck.0) refl)
+pub past_err : {A : Type 0} (r : Result A Reason) (e : Reason) → Past r → r ≡ Err e → is_some e.stuck ≡ true
+past_err {A} r e past is = let P : Result A Reason → Type 0 = λ x. Past x in subst P is past
 
-abbrev HasWalked : Result Unit Refusal → Type 0
-HasWalked answer = walked (Some answer) ≡ true
+module _ (image : List ℕ → List ℕ) (m : Meaning) (blocks n : ℕ) where
+  -- nor does its walk
+  pub mild_walk : (l : ℕ) (expected log : List ℕ) (answer : Result (List ℕ) Reason) (left : List ℕ) → Walked image m blocks n l expected log answer left → Mild answer
+  mild_walk zero expected log answer left w = let P : Result (List ℕ) Reason → Type 0 = λ r. Mild r in subst P (sym w.0) tt
+  mild_walk (suc l) expected log answer left w =
+      let P : Result (List ℕ) Reason → Type 0 = λ r. Mild r in tried_elim image (Mild answer) w (λ bytes passes rest. mild_walk l _ _ answer left rest) (λ why none stuck. subst P (sym stuck.0) refl)
 
-walked_unwritten : (failed : Option Failed) → HasWalked (unwritten failed)
-walked_unwritten None = refl
-walked_unwritten (Some failed) = refl
+  -- a walk is past the checks
+  pub past_walk : (l : ℕ) (expected log : List ℕ) (answer : Result (List ℕ) Reason) (left : List ℕ) → Walked image m blocks n l expected log answer left → Past answer
+  past_walk zero expected log answer left w = let P : Result (List ℕ) Reason → Type 0 = λ r. Past r in subst P (sym w.0) tt
+  past_walk (suc l) expected log answer left w =
+      let P : Result (List ℕ) Reason → Type 0 = λ r. Past r in tried_elim image (Past answer) w (λ bytes passes rest. past_walk l _ _ answer left rest) (λ why none stuck. subst P (sym stuck.0) refl)
 
 -- a read past its checks answers as one that walked
-pub fetch_walked : (image : List ℕ → List ℕ) (store tree : Meaning) (blocks n : ℕ) (root : List ℕ) (answer : Result Unit Refusal) (block left : List ℕ) → Fetched image store tree blocks n root answer block left → walked (Some answer) ≡ true
+pub fetch_walked : (image : List ℕ → List ℕ) (store tree : Meaning) (blocks n : ℕ) (root : List ℕ) (answer : Result Unit Reason) (block left : List ℕ) → Fetched image store tree blocks n root answer block left → walked answer ≡ true
 fetch_walked image store tree blocks n root answer block left f =
     on f.walked (past_walk image tree blocks n _ _ _ f.walked f.passed f.walk) f.fetch
   where
-    P : Result Unit Refusal → Type 0
-    P a = HasWalked a
+    P : Result Unit Reason → Type 0
+    P a = walked a ≡ true
 
-    on : (r : Result (List ℕ) Refusal) → Past r → MatchResult r (λ expected. FetchedBlock image store n expected f.passed answer block left) (λ refusal. (answer ≡ Err refusal) × (block ≡ zeros) × (left ≡ f.passed)) → HasWalked answer
-    on (Ok expected) past fetch = tried_elim image (HasWalked answer) fetch (λ bytes passes came. subst P (sym came.0) refl) (λ why none stuck. subst P (sym stuck.0) refl)
-    on (Err refusal) past fetch = subst P (sym fetch.0) past
+    on : (r : Result (List ℕ) Reason) → Past r → MatchResult r (λ expected. FetchedBlock image store n expected f.passed answer block left) (λ e. (answer ≡ Err e) × (block ≡ zeros) × (left ≡ f.passed)) → walked answer ≡ true
+    on (Ok expected) past fetch = tried_elim image (walked answer ≡ true) fetch (λ bytes passes came. subst P (sym came.0) refl) (λ why none stuck. subst P (sym stuck.0) refl)
+    on (Err e) past fetch = subst P (sym fetch.0) past
 
 -- and so does a write
-pub write_walked : (v v' : View) (p : Open) (n : ℕ) (block : List ℕ) (answer : Result Unit Refusal) (log : List ℕ) → Writing v p n block answer log v' → walked (Some answer) ≡ true
-write_walked v v' p n block answer log o =
-    on o.walked (past_walk v.image v.tree p.blocks n _ _ _ o.walked log o.walk) o.put
-  where
-    P : Result Unit Refusal → Type 0
-    P a = HasWalked a
-
-    on : (r : Result (List ℕ) Refusal) → Past r → MatchResult r (λ expected. Putting v p n block answer log v') (λ refusal. (answer ≡ Err refusal) × (v' ≡ v)) → HasWalked answer
-    on (Ok expected) past put = subst P (sym put.answered) (walked_unwritten put.failed)
-    on (Err refusal) past put = subst P (sym put.0) past
+pub write_walked : (failed : Option Stuck) → walked (unwritten failed) ≡ true
+write_walked None = refl
+write_walked (Some stuck) = refl

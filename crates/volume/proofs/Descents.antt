@@ -1,60 +1,64 @@
 -- A walk told level by level.
-use Rattle.std.proofs.Common.{◌≡◌, ℕ, suc, Option, List, Result, Ok, Err, MatchResult, sym, ap, subst}
+use Rattle.std.proofs.Common.{◌≡◌, ℕ, suc, Option, List, Result, Ok, Err, MatchResult, sym, refl, subst}
 use Rattle.device.specs.declared.fault.Fault.{Fault}
-use Rattle.device.specs.Meaning.{Meaning}
+use Rattle.device.specs.declared.source.Source
 use Rattle.device.specs.Memory.{with_part}
 use Rattle.geometry.specs.Geometry.{place}
 use Rattle.tree.specs.Paths.{cell_at}
 use Rattle.volume.specs.declared.refusal.Refusal.{Refusal}
-use Rattle.volume.specs.Refusals.{tree_block}
+use Rattle.volume.specs.Refusals.{Reason, reason, told, tree_block}
 use Rattle.volume.specs.Walk.{Descended, Walked}
 
-pub ok_not_err : {A E : Type 0} (a : A) (e : E) → Ok a ≡ Err e → ⊥
-ok_not_err {A} {E} a e same = let P : Result A E → Type 0 = λ r. MatchResult r (λ x. Unit {0}) (λ x. ⊥) in subst P same tt
+module _ {S : Type 0} (g : Source.Ghosts S) (image : List ℕ → List ℕ) (blocks n height : ℕ) (root blank_log : List ℕ) (first : S) where
+  -- whatever the walk over the levels below this one comes to, the whole walk comes to
+  pub record SoFar (level : ℕ) (expected log : List ℕ) (s : S) : Type 0 where
+    pub comes : (answer : Result (List ℕ) Reason) (left : List ℕ) (t : S) → Walked g image blocks n level expected log s answer left t → Walked g image blocks n height root blank_log first answer left t
 
-abbrev err_in : {A E : Type 0} → E → Result A E → E
-err_in d (Ok a) = d
-err_in d (Err e) = e
+  -- no level is left
+  pub all_passed : (level : ℕ) (expected log : List ℕ) (s : S) → level ≡ 0 → SoFar level expected log s → Walked g image blocks n height root blank_log first (Ok expected) log s
+  all_passed level expected log s none so_far = so_far.comes (Ok expected) log s (subst (λ k. Walked g image blocks n k expected log s (Ok expected) log s) (sym none) (refl, refl, refl))
 
-pub same_err : {A B E : Type 0} (e f : E) → ◌≡◌ {A = Result A E} (Err e) (Err f) → ◌≡◌ {A = Result B E} (Err e) (Err f)
-same_err e f same = ap Err (ap (err_in e) same)
+  module _ (l : ℕ) (expected log : List ℕ) (s : S) (next left : List ℕ) (between : S) where
+    abbrev number : ℕ
+    number = (place blocks l n).0
 
--- whatever the rest of the walk comes to, the whole walk comes to
-pub record Rest (whole rest : Result (List ℕ) Refusal → List ℕ → Type 0) : Type 0 where
-  pub comes : (answer : Result (List ℕ) Refusal) (left : List ℕ) → rest answer left → whole answer left
+    abbrev cell : ℕ
+    cell = (place blocks l n).1
 
-module _ (image : List ℕ → List ℕ) (m : Meaning) (blocks n l : ℕ) (expected log next left : List ℕ) where
-  abbrev number : ℕ
-  number = (place blocks l n).0
+    -- what comes of a level's block, by what is answered
+    abbrev Came : Result Unit Reason → Result (List ℕ) (Option Fault) → S → Type 0
+    Came answer outcome found =
+        MatchResult outcome (λ bytes. (answer ≡ Ok tt) × (next ≡ cell_at bytes cell) × (left ≡ with_part log (suc l) bytes) × (between ≡ found))
+        (λ why. (answer ≡ Err (tree_block l number why)) × (left ≡ log) × (between ≡ found))
 
-  abbrev cell : ℕ
-  cell = (place blocks l n).1
+    passed : (outcome : Result (List ℕ) (Option Fault)) (found : S) (answer : Result (List ℕ) Reason) (at_end : List ℕ) (t : S) → Came (Ok tt) outcome found → Walked g image blocks n l next left between answer at_end t
+        → MatchResult outcome (λ bytes. Walked g image blocks n l (cell_at bytes cell) (with_part log (suc l) bytes) found answer at_end t) (λ why. (answer ≡ Err (tree_block l number why)) × (at_end ≡ log) × (t ≡ found))
+    passed (Ok bytes) found answer at_end t (same, to, into, by) rest =
+        subst (λ e. Walked g image blocks n l e (with_part log (suc l) bytes) found answer at_end t) to
+        (subst (λ r. Walked g image blocks n l next r found answer at_end t) into (subst (λ u. Walked g image blocks n l next left u answer at_end t) by rest))
+    passed (Err why) found answer at_end t (clash, stands, by) rest = cc
 
-  -- a level as the code has it: by another name for the meaning, the place and the answer
-  pub as_coded : (m' : Meaning) (p : ℕ × ℕ) (answer answer' : Result Unit Refusal) → m' ≡ m → p ≡ place blocks l n → answer' ≡ answer → Descended image m' l p.0 p.1 expected log answer' next left
-      → Descended image m l number cell expected log answer next left
-  as_coded m' p answer answer' means at came d =
-      subst (λ v. Descended image v l number cell expected log answer next left) means
-      (subst (λ q. Descended image m' l q.0 q.1 expected log answer next left) at (subst (λ r. Descended image m' l p.0 p.1 expected log r next left) came d))
+    got_stuck : (refusal : Reason) (outcome : Result (List ℕ) (Option Fault)) (found : S) → Came (Err refusal) outcome found
+        → MatchResult outcome (λ bytes. Walked g image blocks n l (cell_at bytes cell) (with_part log (suc l) bytes) found (Err refusal) left between) (λ why. (◌≡◌ {A = Result (List ℕ) Reason} (Err refusal) (Err (tree_block l number why))) × (left ≡ log) × (between ≡ found))
+    got_stuck refusal (Ok bytes) found (clash, to, into, by) = cc
+    got_stuck refusal (Err why) found (same, stands, by) = (cc, stands, by)
 
-  passed : (outcome : Result (List ℕ) (Option Fault)) (answer : Result (List ℕ) Refusal) (at_end : List ℕ)
-      → MatchResult outcome (λ bytes. (◌≡◌ {A = Result Unit Refusal} (Ok tt) (Ok tt)) × (next ≡ cell_at bytes cell) × (left ≡ with_part log (suc l) bytes)) (λ why. (◌≡◌ {A = Result Unit Refusal} (Ok tt) (Err (tree_block l number why))) × (left ≡ log))
-      → Walked image m blocks n l next left answer at_end
-      → MatchResult outcome (λ bytes. Walked image m blocks n l (cell_at bytes cell) (with_part log (suc l) bytes) answer at_end) (λ why. (answer ≡ Err (tree_block l number why)) × (at_end ≡ log))
-  passed (Ok bytes) answer at_end (same, to, into) rest = subst (λ e. Walked image m blocks n l e (with_part log (suc l) bytes) answer at_end) to (subst (λ g. Walked image m blocks n l next g answer at_end) into rest)
-  passed (Err why) answer at_end (clash, stands) rest = absurd (ok_not_err tt (tree_block l number why) clash)
+    -- a level as the code has it: its block passed
+    pub down : (level : ℕ) (place_there : ℕ × ℕ) (result : Result Unit Refusal) → level ≡ suc l → place_there ≡ place blocks l n → result ≡ Ok tt → SoFar level expected log s
+        → Descended g image l place_there.0 place_there.1 expected log s (told result) next left between → SoFar l next left between
+    down level place_there result up at came so_far d =
+        let here = subst (λ p. Descended g image l p.0 p.1 expected log s (Ok tt) next left between) at (subst (λ r. Descended g image l place_there.0 place_there.1 expected log s (told r) next left between) came d) in
+        let whole = subst (λ k. SoFar k expected log s) up so_far in
+        record {
+          comes = λ answer at_end t rest.
+              whole.comes answer at_end t (record { outcome = here.outcome; between = here.between; search = here.search; goes_on = passed here.outcome here.between answer at_end t here.goes_on rest });
+        }
 
-  pub down : (whole : Result (List ℕ) Refusal → List ℕ → Type 0) → Rest whole (Walked image m blocks n (suc l) expected log) → Descended image m l number cell expected log (Ok tt) next left
-      → Rest whole (Walked image m blocks n l next left)
-  down whole so_far d =
-      record { comes = λ answer at_end rest. so_far.comes answer at_end (record { outcome = d.outcome; trial = d.trial; goes_on = passed d.outcome answer at_end d.goes_on rest }) }
-
-  got_stuck : (refusal : Refusal) (outcome : Result (List ℕ) (Option Fault))
-      → MatchResult outcome (λ bytes. (◌≡◌ {A = Result Unit Refusal} (Err refusal) (Ok tt)) × (next ≡ cell_at bytes cell) × (left ≡ with_part log (suc l) bytes)) (λ why. (◌≡◌ {A = Result Unit Refusal} (Err refusal) (Err (tree_block l number why))) × (left ≡ log))
-      → MatchResult outcome (λ bytes. Walked image m blocks n l (cell_at bytes cell) (with_part log (suc l) bytes) (Err refusal) left) (λ why. (◌≡◌ {A = Result (List ℕ) Refusal} (Err refusal) (Err (tree_block l number why))) × (left ≡ log))
-  got_stuck refusal (Ok bytes) (clash, to, into) = absurd (ok_not_err tt refusal (sym clash))
-  got_stuck refusal (Err why) (same, stands) = (same_err refusal (tree_block l number why) same, stands)
-
-  pub stuck : (whole : Result (List ℕ) Refusal → List ℕ → Type 0) (refusal : Refusal) → Rest whole (Walked image m blocks n (suc l) expected log) → Descended image m l number cell expected log (Err refusal) next left
-      → whole (Err refusal) left
-  stuck whole refusal so_far d = so_far.comes (Err refusal) left (record { outcome = d.outcome; trial = d.trial; goes_on = got_stuck refusal d.outcome d.goes_on })
+    -- or none of its ways did
+    pub stuck : (level : ℕ) (place_there : ℕ × ℕ) (result : Result Unit Refusal) (refusal : Refusal) → level ≡ suc l → place_there ≡ place blocks l n → result ≡ Err refusal → SoFar level expected log s
+        → Descended g image l place_there.0 place_there.1 expected log s (told result) next left between → Walked g image blocks n height root blank_log first (Err (reason refusal)) left between
+    stuck level place_there result refusal up at came so_far d =
+        let here = subst (λ p. Descended g image l p.0 p.1 expected log s (Err (reason refusal)) next left between) at (subst (λ r. Descended g image l place_there.0 place_there.1 expected log s (told r) next left between) came d) in
+        let whole = subst (λ k. SoFar k expected log s) up so_far in
+        whole.comes (Err (reason refusal)) left between
+        (record { outcome = here.outcome; between = here.between; search = here.search; goes_on = got_stuck (reason refusal) here.outcome here.between here.goes_on })

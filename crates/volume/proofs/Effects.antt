@@ -5,7 +5,7 @@ use Rattle.std.proofs.lemmas.Bool.{cases_order, cond-true, cond-false, cond_both
 use Rattle.std.proofs.lemmas.List.{get_or_append_left, get_or_push, length_push}
 use Rattle.device.specs.declared.fault.Fault.{Fault}
 use Rattle.device.specs.Meaning.{Cell, Exists, IsSure, Meaning, Stays, Written, after_write, holding, loose, sure}
-use Rattle.volume.specs.Effects.{Rewritten}
+use Rattle.volume.proofs.Meant.{Rewritten}
 
 -- a sure cell has the write accepted, and a loose one stands anyway
 anyway : (answer : Result Unit Fault) (n k : ℕ) (block : List ℕ) (c : Cell) → (k ≡ n → IsSure c → answer ≡ Ok tt) → after_write answer n block k c ≡ cond (nat_eq k n) (holding block c) c

@@ -5,8 +5,9 @@ use Rattle.std.proofs.lemmas.Bool.{cases_eq, cond-true, cond-false, cond_both, e
 use Rattle.std.proofs.lemmas.List.{get_or-set_same, get_or-set_other}
 use Rattle.device.specs.declared.fault.Fault.{Fault}
 use Rattle.device.specs.Meaning.{Cell, Exists, IsSure, Meaning, Settled, Stays, Written, holding, loose, sure}
-use Rattle.volume.specs.Effects.{Lie, Rewritten}
+use Rattle.volume.specs.Effects.{Lie}
 use Rattle.volume.proofs.Effects.{written_anyway}
+use Rattle.volume.proofs.Meant.{Rewritten}
 
 -- what there is was there before
 pub existed : {m m' : Meaning} → Stays m m' → (way k : ℕ) → Exists m' way k → Exists m way k

@@ -8,9 +8,9 @@ use Rattle.device.specs.MemoryLaws.{length-with_part, other_part}
 use Rattle.device.specs.Zeros.{zeros}
 use Rattle.geometry.specs.Geometry.{place}
 use Rattle.tree.specs.Paths.{cell_at}
-use Rattle.volume.specs.declared.refusal.Refusal.{Refusal}
 use Rattle.volume.specs.Record.{blank}
-use Rattle.volume.specs.Walk.{Trial, Tried, Passes, NoneOf, Walked, FetchedBlock}
+use Rattle.volume.specs.Refusals.{Reason}
+use Rattle.volume.proofs.Meant.{Trial, Tried, Passes, NoneOf, Walked, FetchedBlock}
 
 -- a record area from which only the parts from `first` to `last` were written
 pub record Leaves (log : List ℕ) (first last : ℕ) (left : List ℕ) : Type 0 where
@@ -40,7 +40,7 @@ module _ (image : List ℕ → List ℕ) where
       on (Err why) trial goes_on = failed why trial goes_on
 
   -- a walk over the l lowest levels writes only their parts of the record
-  pub walk_leaves : (m : Meaning) (blocks n l : ℕ) (expected log : List ℕ) (answer : Result (List ℕ) Refusal) (left : List ℕ) → l ≤ 3 → length log ≡ 2048 → Walked image m blocks n l expected log answer left → Leaves log 1 l left
+  pub walk_leaves : (m : Meaning) (blocks n l : ℕ) (expected log : List ℕ) (answer : Result (List ℕ) Reason) (left : List ℕ) → l ≤ 3 → length log ≡ 2048 → Walked image m blocks n l expected log answer left → Leaves log 1 l left
   walk_leaves m blocks n zero expected log answer left few long (is, stands) = leaves_all log left 1 0 long stands
   walk_leaves m blocks n (suc l) expected log answer left few long w =
       tried_elim (Leaves log 1 (suc l) left) w
@@ -55,11 +55,11 @@ module _ (image : List ℕ → List ℕ) where
       (λ why none stuck. leaves_all log left 1 (suc l) long stuck.1)
 
   -- a fetch writes at most part 0 of the record that the walk left
-  pub fetch_leaves : (store : Meaning) (n : ℕ) (walked : Result (List ℕ) Refusal) (log : List ℕ) (answer : Result Unit Refusal) (block left : List ℕ) → length log ≡ 2048
-      → MatchResult walked (λ expected. FetchedBlock image store n expected log answer block left) (λ refusal. (answer ≡ Err refusal) × (block ≡ zeros) × (left ≡ log)) → Leaves log 0 0 left
+  pub fetch_leaves : (store : Meaning) (n : ℕ) (walked : Result (List ℕ) Reason) (log : List ℕ) (answer : Result Unit Reason) (block left : List ℕ) → length log ≡ 2048
+      → MatchResult walked (λ expected. FetchedBlock image store n expected log answer block left) (λ reason. (answer ≡ Err reason) × (block ≡ zeros) × (left ≡ log)) → Leaves log 0 0 left
   fetch_leaves store n (Ok expected) log answer block left long fetch =
       tried_elim (Leaves log 0 0 left) fetch (λ bytes passes came. leaves_others log bytes left 0 (omega arith) long passes.whole came.2) (λ why none stuck. leaves_all log left 0 0 long stuck.2)
-  fetch_leaves store n (Err refusal) log answer block left long (is, none, stands) = leaves_all log left 0 0 long stands
+  fetch_leaves store n (Err reason) log answer block left long (is, none, stands) = leaves_all log left 0 0 long stands
 
 -- the record area begins with its whole length
 pub blank_long : length blank ≡ 2048

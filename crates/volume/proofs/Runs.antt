@@ -1,182 +1,151 @@
--- What every story keeps: by one call, and by induction over the list, with the extractor or on sound devices.
-use Rattle.std.proofs.Common.{◌≡◌, ℕ, ◌⊎◌, inl, inr, true, false, Option, None, Some, List, [], ◌∷◌, length, Result, MatchOption, refl, sym, ap, ◌∙◌, subst, ⊎_elim, arith}
-use Rattle.std.specs.Prelude.{IsSome}
+-- What every story keeps: by one call, and by induction over its calls, with the extractor or on sound devices.
+use Rattle.std.proofs.Common.{◌≡◌, ℕ, ◌<◌, ◌⊎◌, inl, inr, true, false, cond, Some, List, [], ◌∷◌, length, Ok, MatchOption, refl, sym, ap, ◌∙◌, subst, true≢false, ⊎_elim, arith}
+use Rattle.std.specs.Prelude.{slice_index_or}
 use Rattle.device.specs.Meaning.{IsMeaning}
-use Rattle.volume.specs.declared.entry.Call.{Call}
-use Rattle.volume.specs.declared.entry.Call.TheVariants.{Begin, Read, Write, Keep, Leave, Shut, Open as Opens}
-use Rattle.volume.specs.declared.entry.Entry.{Entry}
-use Rattle.volume.specs.declared.entry.Hand.{Hand}
-use Rattle.volume.specs.declared.refusal.Refusal.{Refusal}
-use Rattle.volume.specs.declared.register.Register.{Register}
-use Rattle.volume.specs.declared.slip.Slip.{Slip}
-use Rattle.volume.specs.Calls.{Checked}
-use Rattle.volume.specs.Extract.{extract}
-use Rattle.volume.specs.Ledger.{Ledger, NoLeave, feed, fed, leaves, walked}
-use Rattle.volume.specs.Promise.{AreContents, Laid, Right, Shows, right, shows}
-use Rattle.volume.specs.Slips.{slip_number}
-use Rattle.volume.specs.Story.{BeginCall, Entered, Idle, KeepCall, LeaveCall, State, Step, Story, WriteCall, done, slip_in, step_of}
-use Rattle.volume.specs.View.{View}
-use Rattle.volume.proofs.Invariant.{Agrees, Sees, agrees_still, begin_agrees, fed_by, keep_agrees, leave_agrees, open_agrees, read_agrees, shut_agrees, write_agrees}
-use Rattle.volume.proofs.Shown.{shown_at}
+use Rattle.geometry.specs.Geometry.{levels}
+use Rattle.tree.specs.Layout.{root_of}
+use Rattle.volume.specs.Checks.{read_check}
+use Rattle.volume.specs.Ledger.{Ledger, NoLeave, accepted, fed, feed, is_leave, path_of, walked}
+use Rattle.volume.specs.Promise.{AreContents, AreSound, Collision, Counts, Follows, Laid, Right, Shows, right, shows}
+use Rattle.volume.specs.Record.{blank}
+use Rattle.volume.specs.Story.{Alike, Call, Made, State, Step, Story, leaves, reads, step_of, writes}
+use Rattle.volume.specs.View.{Base, View, open_of, view}
+use Rattle.volume.proofs.Decided.{read_ok, write_walked}
+use Rattle.volume.proofs.Invariant.{Agrees, TrueParts, agrees_under, begun_on, count_of, counts_of, fetch_of, follows_on, kept_on, left_on, not_clear_on, opened_on, shut_on, stands_on, walk_of, written_on}
+use Rattle.volume.proofs.Laws.{fetch_means}
+use Rattle.volume.proofs.Meant.{Fetched, Walked}
+use Rattle.volume.proofs.Outcomes.{Lawful, Outcome, begun, kept, left, not_clear, opened, outcome, shut, stands, written}
+use Rattle.volume.proofs.Results.{either}
+use Rattle.volume.proofs.Shown.{collision_at}
 use Rattle.volume.proofs.Truths.{read_right, read_sound, walk_long, walk_sound, walk_true}
 
--- checks that came first, told by less of what was refused
-pub checked_less : {A : Type 0} {check : Result A Refusal} {Refused : Refusal → Type 0} {Goes : A → Type 0} (Less : Refusal → Type 0) → ((e : Refusal) → Refused e → Less e) → Checked check Refused Goes → Checked check Less Goes
-checked_less Less less step = record { refused = λ e is. less e (step.refused e is); goes_on = step.goes_on }
+-- what an accepted read and a walk that goes through come to, or else this of the call
+pub record Sees (image : List ℕ → List ℕ) (Else : Type 0) (l : Ledger) (v : View) (m : Made) : Type 0 where
+  pub read : (n : ℕ) → m.call ≡ reads n → Counts v (length l.contents) → n < length l.contents
+      → Fetched image v.store v.tree (length l.contents) n (root_of image l.contents) m.answer m.block_left m.log_left → m.answer ≡ Ok tt → (m.block_left ≡ slice_index_or l.contents n []) ⊎ Else
+  pub walk : (slip n : ℕ) → m.call ≡ writes slip n → Counts v (length l.contents) → n < length l.contents → walked m.answer ≡ true → (expected : List ℕ)
+      → Walked image v.tree (length l.contents) n (levels (length l.contents)) (root_of image l.contents) blank (Ok expected) m.log_left → TrueParts image l.contents n m.log_left ⊎ Else
 
-module _ {X : Type 0} (view : X → View) (image : List ℕ → List ℕ) (wide : (b : List ℕ) → length (image b) ≡ 32) (kind n : ℕ) (Sound : Type 0) where
-  -- after a call the ledger agrees still, and the block of an accepted read is right; or else this of the call, its answer and its record
-  abbrev pub Ends : (Else : Call → Option (Result Unit Refusal) → List ℕ → Type 0) → Type 0 → Ledger → Call → Option (Result Unit Refusal) → List ℕ → List ℕ → View → Register → Type 0
-  Ends Else Before l c answer block log v' r' = right l c answer block × Agrees image kind n Sound (Before × (leaves c answer ≡ false)) (fed_by l c answer block) v' r' ⊎ Else c answer log
+-- what a call on the path of a data block shows
+pub shows_at : (image : List ℕ → List ℕ) (l : Ledger) (m : Made) (k : ℕ) → path_of m.call ≡ Some k → walked m.answer ≡ true → Collision image l.contents k m.log_left → shows image l m
+shows_at image l m k is went c = subst (λ o. MatchOption o ⊥ (λ j. (walked m.answer ≡ true) × Collision image l.contents j m.log_left)) (sym is) (went, c)
 
-  module _ (Before : Type 0) (l : Ledger) (w w' : State X) (e e' : Entry) (i : Agrees image kind n Sound Before l (view w.volume) w.register) (Else : Call → Option (Result Unit Refusal) → List ℕ → Type 0) (sees : Sees image Else l (view w.volume)) where
-    abbrev At_end : Call → Option (Result Unit Refusal) → List ℕ → List ℕ → Type 0
-    At_end c answer block log = Ends Else Before l c answer block log (view w'.volume) w'.register
+module _ {D T H : Type 0} (b : Base D T H) (lawful : Lawful b) where
+  -- after every story the volume is open, and a slip is out, as the ledger says
+  pub story_follows : (ms : List Made) (l : Ledger) (w w' : State D T H) → Follows l (view b w.volume) → Story b w ms w' → Follows (fed l ms) (view b w'.volume)
+  story_follows [] l w w' f same = subst (λ u. Follows l (view b u.volume)) (sym same) f
+  story_follows (m ∷ ms) l w w' f s =
+      story_follows ms (feed l m) s.on w' (subst (Follows (feed l m)) (sym s.alike.same_view) (follows_on (outcome b lawful l w m s.between s.step) f)) s.others
 
-    abbrev Ended : Type 0
-    Ended = At_end e'.call e'.answer e'.block.items e'.log.items
+  module _ (image : List ℕ → List ℕ) (wide : (block : List ℕ) → length (image block) ≡ 32) (kind n : ℕ) (Sound : Type 0) where
+    -- after a call the ledger agrees still, and the block of an accepted read is right; or else this of the call
+    abbrev pub Ends : Type 0 → Type 0 → Ledger → Made → State D T H → Type 0
+    Ends Else Before l m w' =
+        right l m m.call × Agrees image kind n Sound (Before × (cond (is_leave m.call) (accepted m.answer) false ≡ false)) (feed l m) (view b w'.volume) w'.register ⊎ Else
 
-    entered_so : (c : Call) (answer : Option (Result Unit Refusal)) (block log : List ℕ) → e.call ≡ c → Entered e e' answer block log → At_end c answer block log → Ended
-    entered_so c answer block log is entered ends =
-        subst (λ x. At_end x e'.answer e'.block.items e'.log.items) (sym (entered.same_call ∙ is))
-        (subst (λ x. At_end c x e'.block.items e'.log.items) (sym entered.answered)
-        (subst (λ x. At_end c answer x e'.log.items) (sym entered.block_left) (subst (λ x. At_end c answer block x) (sym entered.log_left) ends)))
+    module _ (Before : Type 0) (l : Ledger) (w : State D T H) (m : Made) (w' : State D T H) (i : Agrees image kind n Sound Before l (view b w.volume) w.register)
+        (Else : Type 0) (sees : Sees image Else l (view b w.volume) m)
+      where
+        abbrev After : Type 0
+        After = Before × (cond (is_leave m.call) (accepted m.answer) false ≡ false)
 
-    same_view : w' ≡ w → view w'.volume ≡ view w.volume
-    same_view same = ap (λ (s : State X). view s.volume) same
+        abbrev AgreesThen : Type 0
+        AgreesThen = Agrees image kind n Sound After (feed l m) (view b w'.volume) w'.register
 
-    same_register : w' ≡ w → w'.register ≡ w.register
-    same_register same = ap (λ (s : State X). s.register) same
+        leave_known : (slip : ℕ) → m.call ≡ leaves slip → m.answer ≡ Ok tt → After → ⊥
+        leave_known slip is answered a =
+            true≢false (sym (ap (λ c. cond (is_leave c) (accepted m.answer) false) is ∙ ap accepted answered) ∙ a.1)
 
-    -- a call that could not be made
-    still : (After : Type 0) → (After → Before) → w' ≡ w → Agrees image kind n Sound After l (view w'.volume) w'.register
-    still After under same = agrees_still image kind n Sound Before After l (view w.volume) (view w'.volume) w.register w'.register i under (same_view same) (same_register same)
+        on_outcome : Outcome l (view b w.volume) w.register m (feed l m) (view b w'.volume) w'.register → Follows (feed l m) (view b w'.volume) → AgreesThen ⊎ Else
+        on_outcome (stands quiet o) f = inl (stands_on {After = After} (λ a. a.0) i f o)
+        on_outcome (opened quiet o) f = inl (opened_on {After = After} (λ a. a.0) i f o)
+        on_outcome (begun is answered o) f = inl (begun_on {After = After} (λ a. a.0) i f o)
+        on_outcome (shut quiet o) f = inl (shut_on {After = After} (λ a. a.0) i f o)
+        on_outcome (left slip is answered own o) f = inl (left_on {After = After} (λ a. a.0) i f (leave_known slip is answered) o)
+        on_outcome (kept slip is answered own o) f = inl (kept_on {After = After} (λ a. a.0) i f o)
+        on_outcome (not_clear quiet o) f = inl (not_clear_on {After = After} (λ a. a.0) i f o)
+        on_outcome (written quiet slip k is o) f =
+            let p = o.was.mind in
+            ⊎_elim (λ parts. inl (written_on {After = After} (λ a. a.0) i f wide k o parts)) inr
+            (sees.walk slip k is (counts_of i p o.was.present) (subst (λ c. k < c) (count_of i p o.was.present) o.inside)
+            (ap walked o.answered ∙ write_walked o.failed) o.expected (walk_of i p o.was.present k (Ok o.expected) m.log_left o.walk))
 
-    begin_ends : (hand : Hand) (held : Option Slip) → e.call ≡ Begin hand → MatchOption held (BeginCall view w e e' w' hand) (λ full. Idle view w e e' w') → Ended
-    begin_ends hand None is s =
-        entered_so (Begin hand) (Some (done s.answer)) e.block.items e.log.items is s.entered
-        (inl (
-          tt,
-          begin_agrees image kind n Sound Before (Before × (leaves (Begin hand) (Some (done s.answer)) ≡ false)) l (view w.volume) (view w'.volume) w.register w'.register i hand s.answer e.block.items (λ b. b.0)
-              (checked_less _ (λ r stood. (stood.0, ap view stood.1)) s.step) s.same_register,
-        ))
-    begin_ends hand (Some full) is s = entered_so (Begin hand) None e.block.items e.log.items is s.entered (inl (tt, still _ (λ b. b.0) s.same))
+        -- the block of an accepted read
+        read_so : (c : Call) → m.call ≡ c → step_of b w m w' c → right l m c ⊎ Else
+        read_so (reads k) is (step, register) =
+            either (right l m (reads k) ⊎ Else) (read_check (open_of w.volume.present) k (length m.block) (length m.log))
+            (λ p passed.
+            let o = step.goes_on p passed in
+            let ok = read_ok (open_of w.volume.present) p k (length m.block) (length m.log) passed in
+            let came = fetch_means b.store b.tree lawful.store.reads lawful.tree.reads (b.hash.image w.volume.hash) p.blocks k p.root w.volume.store w.volume.tree m.answer m.block_left m.log_left w'.volume.store w'.volume.tree o.fetched in
+            either (right l m (reads k) ⊎ Else) m.answer
+            (λ done answered.
+            ⊎_elim (λ good. inl (λ yes. good)) inr
+            (sees.read k is (counts_of i p ok.0) (subst (λ c. k < c) (count_of i p ok.0) ok.1.inside) (fetch_of i p ok.0 k m.answer m.block_left m.log_left came.0) answered))
+            (λ e answered. inl (λ yes. absurd (true≢false (sym yes ∙ ap accepted answered)))))
+            (λ e refused. inl (λ yes. absurd (true≢false (sym yes ∙ ap accepted (step.refused e refused).0.0))))
+        read_so _ is step = inl tt
 
-    write_ends : (hand : Hand) (k : ℕ) (held : Option Slip) → e.call ≡ Write hand k → MatchOption held (Idle view w e e' w') (λ slip. WriteCall view w e e' w' (slip_number slip) k) → Ended
-    write_ends hand k None is s = entered_so (Write hand k) None e.block.items e.log.items is s.entered (inl (tt, still _ (λ b. b.0) s.same))
-    write_ends hand k (Some slip) is s =
-        entered_so (Write hand k) (Some s.answer) e.block.items e'.log.items is s.entered
-        (⊎_elim (λ agrees. inl (tt, agrees)) inr
-        (write_agrees image kind n Sound Before (Before × (leaves (Write hand k) (Some s.answer) ≡ false)) l (view w.volume) (view w'.volume) w.register w'.register i Else sees wide hand (slip_number slip) k (length e.log.items) e.block.items s.answer e'.log.items
-        (λ b. b.0) (checked_less _ (λ r stood. (stood.0.0, ap view stood.0.1)) s.step) s.same_register))
+        -- one call of a story
+        pub step_ends : Step b w m w' → Ends Else Before l m w'
+        step_ends s =
+            let o = outcome b lawful l w m w' s in
+            ⊎_elim (λ good. ⊎_elim (λ agrees. inl (good, agrees)) inr (on_outcome o (follows_on o i.follows))) inr (read_so m.call refl s)
 
-    keep_ends : (hand : Hand) (held : Option Slip) → e.call ≡ Keep hand → MatchOption held (Idle view w e e' w') (λ slip. KeepCall view w e e' w' hand (slip_number slip)) → Ended
-    keep_ends hand None is s = entered_so (Keep hand) None e.block.items e.log.items is s.entered (inl (tt, still _ (λ b. b.0) s.same))
-    keep_ends hand (Some slip) is s =
-        entered_so (Keep hand) (Some s.answer) e.block.items e.log.items is s.entered
-        (inl (
-          tt,
-          keep_agrees image kind n Sound Before (Before × (leaves (Keep hand) (Some s.answer) ≡ false)) l (view w.volume) (view w'.volume) w.register w'.register i hand (slip_number slip) s.answer e.block.items (λ b. b.0)
-              (checked_less _ (λ r stood. (stood.0.0, ap view stood.0.1, stood.1)) s.step),
-        ))
+    -- what the extractor sees of a call
+    pub sees_shown : (l : Ledger) (v : View) (m : Made) → AreContents l.contents → Sees image (shows image l m) l v m
+    sees_shown l v m are =
+        record {
+          read = λ k is counts inside fetched answered.
+              ⊎_elim inl (λ c. inr (shows_at image l m k (ap path_of is) (ap walked answered) c))
+              (read_right image wide l.contents are.least are.most k inside (λ g. Collision image l.contents k g) (λ g j long h above other alike. collision_at image l.contents k g inside long j h above other alike)
+              v.store v.tree m.answer m.block_left m.log_left fetched answered);
+          walk = λ slip k is counts inside went expected walk.
+              let long : length m.log_left ≡ 2048 = (walk_long image wide l.contents are.least are.most k inside v.tree (Ok expected) m.log_left walk).0 in
+              ⊎_elim (λ right. inl right.1) (λ c. inr (shows_at image l m k (ap path_of is) went c))
+              (walk_true image wide l.contents are.least are.most k inside (λ g. Collision image l.contents k g) (λ g j long h above other alike. collision_at image l.contents k g inside long j h above other alike)
+              v.tree (Ok expected) expected m.log_left m.log_left walk long (λ j low high. refl) refl);
+        }
 
-    leave_ends : (hand : Hand) (held : Option Slip) → e.call ≡ Leave hand → MatchOption held (Idle view w e e' w') (λ slip. LeaveCall view w e e' w' hand (slip_number slip)) → Ended
-    leave_ends hand None is s = entered_so (Leave hand) None e.block.items e.log.items is s.entered (inl (tt, still _ (λ b. b.0) s.same))
-    leave_ends hand (Some slip) is s =
-        entered_so (Leave hand) (Some s.answer) e.block.items e.log.items is s.entered
-        (inl (
-          tt,
-          leave_agrees image kind n Sound Before (Before × (leaves (Leave hand) (Some s.answer) ≡ false)) l (view w.volume) (view w'.volume) w.register w'.register i hand (slip_number slip) s.answer e.block.items (λ b. b)
-              (checked_less _ (λ r stood. (stood.0, ap view stood.1)) s.step) s.same_register,
-        ))
+    -- what agrees agrees with a volume that is the same to its caller
+    alike_agrees : {Before : Type 0} {l : Ledger} (v u : State D T H) → Alike b v u → Agrees image kind n Sound Before l (view b v.volume) v.register → Agrees image kind n Sound Before l (view b u.volume) u.register
+    alike_agrees {Before} {l} v u alike i =
+        subst (λ r. Agrees image kind n Sound Before l (view b u.volume) r) (sym alike.same_register) (subst (λ x. Agrees image kind n Sound Before l x v.register) (sym alike.same_view) i)
 
-    by_call : (c : Call) → e.call ≡ c → step_of view w e e' w' c → Ended
-    by_call Opens is s =
-        entered_so Opens (Some s.answer) e.block.items e.log.items is s.entered
-        (inl (
-          tt,
-          open_agrees image kind n Sound Before (Before × (leaves Opens (Some s.answer) ≡ false)) l (view w.volume) (view w'.volume) w.register w'.register i s.answer e.block.items (λ b. b.0)
-              (checked_less _ (λ r stood. (stood.0, ap view stood.1)) s.step) s.same_register,
-        ))
-    by_call (Begin hand) is s = begin_ends hand (slip_in w.hands hand) is s
-    by_call (Read k) is s =
-        entered_so (Read k) (Some s.answer) e'.block.items e'.log.items is s.entered
-        (read_agrees image kind n Sound Before (Before × (leaves (Read k) (Some s.answer) ≡ false)) l (view w.volume) (view w'.volume) w.register w'.register i Else sees k (length e.block.items) (length e.log.items) s.answer e'.block.items e'.log.items
-        (λ b. b.0) (checked_less _ (λ r stood. (stood.0.0, ap view stood.0.1)) s.step) s.same_register)
-    by_call (Write hand k) is s = write_ends hand k (slip_in w.hands hand) is s
-    by_call (Keep hand) is s = keep_ends hand (slip_in w.hands hand) is s
-    by_call (Leave hand) is s = leave_ends hand (slip_in w.hands hand) is s
-    by_call Shut is s =
-        entered_so Shut (Some s.answer) e.block.items e.log.items is s.entered
-        (inl (
-          tt,
-          shut_agrees image kind n Sound Before (Before × (leaves Shut (Some s.answer) ≡ false)) l (view w.volume) (view w'.volume) w.register w'.register i s.answer e.block.items (λ b. b.0)
-              (checked_less _ (λ r stood. (stood.0, ap view stood.1)) s.step) s.same_register,
-        ))
+    -- every story keeps to the ledger, or the extractor shows a collision
+    pub story_shown : (ms : List Made) (Before : Type 0) (l : Ledger) (w w' : State D T H) → Agrees image kind n Sound Before l (view b w.volume) w.register → Story b w ms w'
+        → Right l ms × Agrees image kind n Sound (Before × NoLeave ms) (fed l ms) (view b w'.volume) w'.register ⊎ Shows image l ms
+    story_shown [] Before l w w' i same =
+        inl (tt, subst (λ u. Agrees image kind n Sound (Before × NoLeave []) l (view b u.volume) u.register) (sym same) (agrees_under (λ a. a.0) i))
+    story_shown (m ∷ ms) Before l w w' i s =
+        ⊎_elim
+        (λ good.
+        ⊎_elim
+        (λ rest. inl ((good.0, rest.0), agrees_under (λ a. ((a.0, a.1.0), a.1.1)) rest.1))
+        (λ shown. inr (inr shown)) (story_shown ms (Before × (cond (is_leave m.call) (accepted m.answer) false ≡ false)) (feed l m) s.on w' (alike_agrees s.between s.on s.alike good.1) s.others))
+        (λ shown. inr (inl shown)) (step_ends Before l w m s.between i (shows image l m) (sees_shown l (view b w.volume) m i.books.contents) s.step)
 
-    -- one call of a story
-    pub step_ends : Step view w e e' w' → Ended
-    step_ends s = by_call e.call refl s
+    -- what is seen of a call on sound devices that are laid out for the contents
+    pub sees_sound : (l : Ledger) (v : View) (m : Made) → AreContents l.contents → IsMeaning v.store → IsMeaning v.tree → AreSound v → Laid image v.store v.tree l.contents → Sees image ⊥ l v m
+    sees_sound l v m are store_means tree_means sound laid =
+        record {
+          read = λ k is counts inside fetched answered.
+              inl
+              (read_sound image wide l.contents are.least are.most k inside v.store v.tree m.answer m.block_left m.log_left store_means sound.0 (omega (arith, counts.store)) laid.in_store tree_means sound.1 counts.tree laid.in_tree fetched).1;
+          walk = λ slip k is counts inside went expected walk.
+              inl (walk_sound image wide l.contents are.least are.most k inside v.tree (Ok expected) m.log_left tree_means sound.1 counts.tree laid.in_tree walk).1;
+        }
 
-  -- what the extractor sees of the calls
-  pub sees_shown : (l : Ledger) (v : View) → AreContents l.contents → Sees image (shows image l) l v
-  sees_shown l v are =
-      record {
-        read = λ k answer block log counts inside fetched is.
-            let P : Result Unit Refusal → Type 0 = λ a. walked (Some a) ≡ true in
-            ⊎_elim inl (λ shown. inr (subst P (sym is) refl, shown))
-            (read_right image wide l.contents are.least are.most k inside (λ g. IsSome (extract image l.contents k g)) (λ g j long h above other alike. shown_at image l.contents k g inside long j h above other alike) v.store v.tree answer block log fetched is);
-        walk = λ hand k ended answer expected log went counts inside walk is.
-            let long : length log ≡ 2048 = (walk_long image wide l.contents are.least are.most k inside v.tree ended log walk).0 in
-            ⊎_elim (λ right. inl right.1) (λ shown. inr (went, shown))
-            (walk_true image wide l.contents are.least are.most k inside (λ g. IsSome (extract image l.contents k g)) (λ g j long h above other alike. shown_at image l.contents k g inside long j h above other alike) v.tree ended expected log log walk long
-            (λ i low high. refl) is);
-      }
-
-  -- every story keeps to the ledger, or the extractor shows two blocks with one image
-  pub story_shown : (es es' : List Entry) (Before : Type 0) (l : Ledger) (w w' : State X) → Agrees image kind n Sound Before l (view w.volume) w.register → Story view w es es' w'
-      → Right l es' × Agrees image kind n Sound (Before × NoLeave es') (fed l es') (view w'.volume) w'.register ⊎ Shows image l es'
-  story_shown [] [] Before l w w' i same =
-      inl (
-        tt,
-        agrees_still image kind n Sound Before _ l (view w.volume) (view w'.volume) w.register w'.register i (λ b. b.0) (ap (λ (s : State X). view s.volume) same) (ap (λ (s : State X). s.register) same),
-      )
-  story_shown [] (e' ∷ es') Before l w w' i never = absurd never
-  story_shown (e ∷ es) [] Before l w w' i never = absurd never
-  story_shown (e ∷ es) (e' ∷ es') Before l w w' i s =
-      ⊎_elim
-      (λ good.
-      ⊎_elim
-      (λ rest. inl ((good.0, rest.0), agrees_still image kind n Sound _ (Before × NoLeave (e' ∷ es')) (fed (feed l e') es') (view w'.volume) (view w'.volume) w'.register w'.register rest.1 (λ b. ((b.0, b.1.0), b.1.1)) refl refl))
-      (λ shown. inr (inr shown)) (story_shown es es' (Before × (leaves e'.call e'.answer ≡ false)) (feed l e') s.between w' good.1 s.others))
-      (λ shown. inr (inl shown)) (step_ends Before l w s.between e e' i (shows image l) (sees_shown l (view w.volume) i.contents) s.step)
-
-  -- what is seen of the calls on sound devices that are laid out for the contents
-  pub sees_sound : (l : Ledger) (v : View) → AreContents l.contents → IsMeaning v.store → IsMeaning v.tree → (v.store.sound ≡ true) × (v.tree.sound ≡ true) → Laid image v.store v.tree l.contents → Sees image (λ c answer log. ⊥) l v
-  sees_sound l v are store_means tree_means sound laid =
-      record {
-        read = λ k answer block log counts inside fetched is.
-            inl
-            (read_sound image wide l.contents are.least are.most k inside v.store v.tree answer block log store_means sound.0 (omega (arith, counts.store)) laid.in_store tree_means sound.1 counts.tree laid.in_tree fetched).1;
-        walk = λ hand k ended answer expected log went counts inside walk is.
-            inl (walk_sound image wide l.contents are.least are.most k inside v.tree ended log tree_means sound.1 counts.tree laid.in_tree walk).1;
-      }
-
-  -- on sound devices every story without an accepted leave keeps to the ledger
-  pub story_sound : ((s : X) → IsMeaning (view s).store × IsMeaning (view s).tree) → Sound → (es es' : List Entry) (Before : Type 0) (l : Ledger) (w w' : State X) → Before → Agrees image kind n Sound Before l (view w.volume) w.register
-      → Story view w es es' w' → NoLeave es' → Right l es' × Agrees image kind n Sound (Before × NoLeave es') (fed l es') (view w'.volume) w'.register
-  story_sound means sound [] [] Before l w w' before i same none = (
-    tt,
-    agrees_still image kind n Sound Before _ l (view w.volume) (view w'.volume) w.register w'.register i (λ b. b.0) (ap (λ (s : State X). view s.volume) same) (ap (λ (s : State X). s.register) same),
-  )
-  story_sound means sound [] (e' ∷ es') Before l w w' before i never none = absurd never
-  story_sound means sound (e ∷ es) [] Before l w w' before i never none = absurd never
-  story_sound means sound (e ∷ es) (e' ∷ es') Before l w w' before i s none =
-      let sees : Sees image (λ c answer log. ⊥) l (view w.volume) =
-      sees_sound l (view w.volume) i.contents (means w.volume).0 (means w.volume).1 (i.sound sound) (i.laid before) in
-      ⊎_elim
-      (λ good.
-      let rest : Right (feed l e') es' × Agrees image kind n Sound ((Before × (leaves e'.call e'.answer ≡ false)) × NoLeave es') (fed (feed l e') es') (view w'.volume) w'.register =
-      story_sound means sound es es' (Before × (leaves e'.call e'.answer ≡ false)) (feed l e') s.between w' (before, none.0) good.1 s.others none.1 in
-      ((good.0, rest.0), agrees_still image kind n Sound _ (Before × NoLeave (e' ∷ es')) (fed (feed l e') es') (view w'.volume) (view w'.volume) w'.register w'.register rest.1 (λ b. ((b.0, b.1.0), b.1.1)) refl refl))
-      (λ never. absurd never) (step_ends Before l w s.between e e' i (λ c answer log. ⊥) sees s.step)
+    -- on sound devices every story without an accepted leave keeps to the ledger
+    pub story_sound : Sound → (ms : List Made) (Before : Type 0) (l : Ledger) (w w' : State D T H) → Before → Agrees image kind n Sound Before l (view b w.volume) w.register → Story b w ms w' → NoLeave ms
+        → Right l ms × Agrees image kind n Sound (Before × NoLeave ms) (fed l ms) (view b w'.volume) w'.register
+    story_sound sound [] Before l w w' before i same none =
+        (tt, subst (λ u. Agrees image kind n Sound (Before × NoLeave []) l (view b u.volume) u.register) (sym same) (agrees_under (λ a. a.0) i))
+    story_sound sound (m ∷ ms) Before l w w' before i s none =
+        let sees : Sees image ⊥ l (view b w.volume) m =
+        sees_sound l (view b w.volume) m i.books.contents (lawful.store.reads.means w.volume.store) (lawful.tree.reads.means w.volume.tree) (i.cards.sound sound) (i.cards.laid before) in
+        ⊎_elim
+        (λ good.
+        let rest = story_sound sound ms (Before × (cond (is_leave m.call) (accepted m.answer) false ≡ false)) (feed l m) s.on w' (before, none.0) (alike_agrees s.between s.on s.alike good.1) s.others none.1 in
+        ((good.0, rest.0), agrees_under (λ a. ((a.0, a.1.0), a.1.1)) rest.1))
+        (λ never. absurd never) (step_ends Before l w m s.between i ⊥ sees s.step)

@@ -1,6 +1,6 @@
 -- A record compared with the true blocks: what is found.
-use Rattle.std.proofs.Common.{◌≡◌, ◌≢◌, ℕ, zero, suc, ◌*◌, ◌/◌, ◌^◌, ◌<◌, ◌≤◌, false, ◌&&◌, ltb, eqb, List, [], length, get_or, Option, Some, None, sym, refl, ap, ◌∙◌, subst, ⊎_elim, arith}
-use Rattle.std.specs.Prelude.{IfSome, IsSome}
+use Rattle.std.proofs.Common.{◌≡◌, ◌≢◌, ℕ, zero, suc, ◌*◌, ◌/◌, ◌^◌, ◌<◌, ◌≤◌, false, ◌&&◌, ltb, eqb, List, [], length, get_or, Option, Some, None, sym, ap, ◌∙◌, ⊎_elim, arith}
+use Rattle.std.specs.Prelude.{IfSome}
 use Rattle.std.specs.Str.{bytes_eq}
 use Rattle.std.proofs.lemmas.Bool.{and_from, and_left, and_right, both_ways, cases_lt, cond-false, cond-true, cond_both, eq-eqb, false_from_ne_true, le-ltb, lt-ltb, ne_eqb}
 use Rattle.std.proofs.lemmas.Slice.Eq.{bytes_eq-Decides}
@@ -8,6 +8,7 @@ use Rattle.geometry.specs.Geometry.{levels}
 use Rattle.tree.specs.Paths.{true_part}
 use Rattle.device.specs.Memory.{part}
 use Rattle.volume.specs.Extract.{blocks_at, descend, differ, extract}
+use Rattle.volume.specs.Promise.{Collision}
 use Rattle.volume.proofs.Heights.{true_part_at}
 
 module _ (image : List ℕ → List ℕ) where
@@ -100,7 +101,8 @@ module _ (image : List ℕ → List ℕ) where
           extract_is ∙ down_to k (suc (levels (length bs))) (omega arith) (λ j a b. equal j a (omega arith))
           ∙ differ_pair (true_part image bs n k) (part record_area k) (descend image bs n record_area k) (λ e. other (sym e)) alike
 
-      -- at least something is
-      pub shown_at : (k : ℕ) → k ≤ levels (length bs) → ((j : ℕ) → k < j → j ≤ levels (length bs) → part record_area j ≡ true_part image bs n j) → part record_area k ≢ true_part image bs n k
-          → image (true_part image bs n k) ≡ image (part record_area k) → IsSome (extract image bs n record_area)
-      shown_at k h equal other alike = subst (λ o. IsSome o) (sym (found_at k h equal other alike)) refl
+      -- so there is a collision
+      pub collision_at : (k : ℕ) → k ≤ levels (length bs) → ((j : ℕ) → k < j → j ≤ levels (length bs) → part record_area j ≡ true_part image bs n j) → part record_area k ≢ true_part image bs n k
+          → image (true_part image bs n k) ≡ image (part record_area k) → Collision image bs n record_area
+      collision_at k h equal other alike =
+          record { truth = true_part image bs n k; recorded = part record_area k; found = found_at k h equal other alike; differ = λ e. other (sym e); alike = alike }

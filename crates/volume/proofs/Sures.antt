@@ -2,13 +2,8 @@
 use Rattle.std.proofs.Common.{◌≡◌, ℕ, ◌<◌, Option, None, Some, List, Result, Ok, Err, refl, sym, ap, ◌∙◌}
 use Rattle.device.specs.declared.fault.Fault.{Fault}
 use Rattle.device.specs.Meaning.{Cell, sure, loose, IsSure, Meaning, Exists, MayAnswer, CanRead}
-use Rattle.volume.specs.Walk.{FailsWith, Passes, NoneOf}
-use Rattle.volume.proofs.Descents.{ok_not_err}
-
--- what was returned, or else `d`
-abbrev pub ok_in : {A E : Type 0} → A → Result A E → A
-ok_in d (Ok a) = a
-ok_in d (Err e) = d
+use Rattle.volume.proofs.Meant.{FailsWith, Passes, NoneOf}
+use Rattle.volume.proofs.Results.{ok_in, ok_not_err}
 
 module _ (image : List ℕ → List ℕ) (m : Meaning) (n : ℕ) (block : List ℕ) (lies : (way : ℕ) (bytes : List ℕ) → Exists m way n → m.cell way n ≡ sure bytes → bytes ≡ block) where
   answers_so : (c : Cell) (way : ℕ) (answer : Result (List ℕ) Fault) → Exists m way n → m.cell way n ≡ c → IsSure c → MayAnswer c answer → answer ≡ Ok block

@@ -1,11 +1,9 @@
 -- The ways of a block tried one after the other.
-use Rattle.std.proofs.Common.{◌≡◌, ℕ, ◌+◌, Option, None, List, Ok, Bool, false, true≢false, sym, subst, ◌∙◌, ⊎_elim, arith}
-use lib.Dec.{eqb}
-use lib.Pointwise.{bytes_decides, pointwise}
+use Rattle.std.proofs.Common.{◌≡◌, ℕ, ◌+◌, Option, None, List, subst, ⊎_elim, arith}
 use Rattle.std.proofs.lemmas.Bool.{cases_lt}
 use Rattle.device.specs.declared.fault.Fault.{Fault}
-use Rattle.device.specs.Meaning.{Meaning, CanRead}
-use Rattle.volume.specs.Walk.{FailsWith, Fails, NoneOf}
+use Rattle.device.specs.Meaning.{Meaning}
+use Rattle.volume.proofs.Meant.{FailsWith, Fails, NoneOf}
 
 module _ (image : List ℕ → List ℕ) (m : Meaning) (n : ℕ) (expected : List ℕ) where
   pub none_of_none : NoneOf image m n expected 0 None
@@ -17,9 +15,3 @@ module _ (image : List ℕ → List ℕ) (m : Meaning) (n : ℕ) (expected : Lis
         all = λ w h. ⊎_elim (λ before. none.all w before) (λ here. let same : way ≡ w = omega arith in subst (Fails image m n expected) same (record { why = why; fails = fails })) (cases_lt w way);
         last = λ w h. let same : way ≡ w = omega arith in subst (λ v. FailsWith image m n expected v why) same fails;
       }
-
-  -- a way that answers bytes with another image does not pass, as the code compares them
-  pub none_of_other : (way : ℕ) (last : Option Fault) (bytes seen : List ℕ) → NoneOf image m n expected way last → CanRead m way n (Ok bytes) → seen ≡ image bytes → (alike : Bool) → alike ≡ pointwise eqb seen expected → alike ≡ false → NoneOf image m n expected (way + 1) None
-  none_of_other way last bytes seen none answered hashed alike compared differs =
-      none_of_more way last None none
-      (record { bytes = bytes; answered = answered; other = λ same. true≢false (sym ((bytes_decides seen expected).1 (hashed ∙ same)) ∙ sym compared ∙ differs) })

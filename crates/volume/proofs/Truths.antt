@@ -16,14 +16,13 @@ use Rattle.tree.specs.Layout.{tree_of, root_of}
 use Rattle.tree.specs.Paths.{cell_at, true_part}
 use Rattle.tree.proofs.Updates.{true_in_tree, true_cell, true_root}
 use Rattle.tree.proofs.Whole.{length-tree}
-use Rattle.volume.specs.declared.refusal.Refusal.{Refusal}
 use Rattle.volume.specs.Effects.{Lie}
 use Rattle.volume.specs.Record.{blank}
-use Rattle.volume.specs.Refusals.{data_block, tree_block}
-use Rattle.volume.specs.Walk.{Passes, NoneOf, Walked, FetchedBlock, Fetched}
-use Rattle.volume.proofs.Descents.{ok_not_err}
+use Rattle.volume.specs.Refusals.{Reason, data_block, tree_block}
+use Rattle.volume.proofs.Meant.{Passes, NoneOf, Walked, FetchedBlock, Fetched}
+use Rattle.volume.proofs.Results.{ok_in, ok_not_err}
 use Rattle.volume.proofs.Logs.{Leaves, blank_long, fetch_leaves, leaves_others, tried_elim, walk_leaves}
-use Rattle.volume.proofs.Sures.{ok_in, passes_truly, sure_passes}
+use Rattle.volume.proofs.Sures.{passes_truly, sure_passes}
 
 same_or_not : (xs ys : List ℕ) → (xs ≡ ys) ⊎ (xs ≢ ys)
 same_or_not xs ys = on (pointwise eqb xs ys) refl
@@ -37,8 +36,8 @@ pub place_on_tree : (n l k : ℕ) → 1 ≤ n → k < n → l < levels n → (pl
 unfolding place
 place_on_tree n l k least inside h = omega (arith, start_split n l h, place_inside n l k least inside)
 
-abbrev Refused : {A : Type 0} → Result A Refusal → Type 0
-Refused answer = (refusal : Refusal) × (answer ≡ Err refusal)
+abbrev Refused : {A : Type 0} → Result A Reason → Type 0
+Refused answer = (reason : Reason) × (answer ≡ Err reason)
 
 -- the tree lies on the device, with a sure cell for the tree block of each level on the way of data block k
 pub record Reaches (image : List ℕ → List ℕ) (bs : List (List ℕ)) (k : ℕ) (m : Meaning) : Type 0 where
@@ -62,7 +61,7 @@ module _ (image : List ℕ → List ℕ) (wide : (block : List ℕ) → length (
   AgreeAbove log left = (i : ℕ) → 1 ≤ i → i ≤ levels (length bs) → part log i ≡ part left i
 
   -- at some level the image of the true block was expected, and no way passed
-  record Stuck (m : Meaning) : Type 0 where
+  record Halted (m : Meaning) : Type 0 where
     pub level : ℕ
     pub below : level < levels (length bs)
     pub why : Option Fault
@@ -74,11 +73,11 @@ module _ (image : List ℕ → List ℕ) (wide : (block : List ℕ) → length (
     pub none : NoneOf image store k (image (true_part image bs k 0)) store.ways why
 
   -- a walk ends with all tree blocks true, or something else is so, or it got stuck
-  abbrev WalkEnds : Meaning → Type 0 → Result (List ℕ) Refusal → List ℕ → Type 0
-  WalkEnds m Else answer left = (answer ≡ Ok (image (true_part image bs k 0))) × TrueAbove 0 left ⊎ (Else ⊎ Refused answer × Stuck m)
+  abbrev WalkEnds : Meaning → Type 0 → Result (List ℕ) Reason → List ℕ → Type 0
+  WalkEnds m Else answer left = (answer ≡ Ok (image (true_part image bs k 0))) × TrueAbove 0 left ⊎ (Else ⊎ Refused answer × Halted m)
 
-  abbrev ReadEnds : Meaning → Meaning → Type 0 → Result Unit Refusal → List ℕ → Type 0
-  ReadEnds store m Else answer block = (answer ≡ Ok tt) × (block ≡ true_part image bs k 0) ⊎ (Else ⊎ Refused answer × (Stuck m ⊎ Missed store))
+  abbrev ReadEnds : Meaning → Meaning → Type 0 → Result Unit Reason → List ℕ → Type 0
+  ReadEnds store m Else answer block = (answer ≡ Ok tt) × (block ≡ true_part image bs k 0) ⊎ (Else ⊎ Refused answer × (Halted m ⊎ Missed store))
 
   -- what passes for part j of the record, where all parts above it are true: it is true too, or something else is so
   abbrev Sifts : Meaning → Type 0 → List ℕ → ℕ → ℕ → Type 0
@@ -88,7 +87,7 @@ module _ (image : List ℕ → List ℕ) (wide : (block : List ℕ) → length (
   few = levels_most (length bs) least most
 
   module _ (m : Meaning) (Else : Type 0) (final : List ℕ) (sifts : (l : ℕ) → l < levels (length bs) → Sifts m Else final (suc l) (place (length bs) l k).0) where
-    walk_from : (l : ℕ) (expected log : List ℕ) (answer : Result (List ℕ) Refusal) (left : List ℕ) → l ≤ levels (length bs) → length log ≡ 2048 → AgreeAbove final left → expected ≡ image (true_part image bs k l) → TrueAbove l log
+    walk_from : (l : ℕ) (expected log : List ℕ) (answer : Result (List ℕ) Reason) (left : List ℕ) → l ≤ levels (length bs) → length log ≡ 2048 → AgreeAbove final left → expected ≡ image (true_part image bs k l) → TrueAbove l log
         → Walked image m (length bs) k l expected log answer left → WalkEnds m Else answer left
     walk_from zero expected log answer left h long agrees right above (is, stands) = inl (is ∙ ap Ok right, λ i low high. ap (λ r. part r i) stands ∙ above i low high)
     walk_from (suc l) expected log answer left h long agrees right above w =
@@ -110,12 +109,12 @@ module _ (image : List ℕ → List ℕ) (wide : (block : List ℕ) → length (
         let at : NoneOf image m (place (length bs) l k).0 (image (true_part image bs k (suc l))) m.ways why = subst (λ e. NoneOf image m (place (length bs) l k).0 e m.ways why) right none in
         inr (inr ((tree_block l (place (length bs) l k).0 why, stuck.0), record { level = l; below = h; why = why; none = at })))
 
-    walk_ends : (answer : Result (List ℕ) Refusal) (left : List ℕ) → AgreeAbove final left → Walked image m (length bs) k (levels (length bs)) (root_of image bs) blank answer left → WalkEnds m Else answer left
+    walk_ends : (answer : Result (List ℕ) Reason) (left : List ℕ) → AgreeAbove final left → Walked image m (length bs) k (levels (length bs)) (root_of image bs) blank answer left → WalkEnds m Else answer left
     walk_ends answer left agrees w =
         walk_from (levels (length bs)) (root_of image bs) blank answer left (omega arith) blank_long agrees (true_root image wide bs least most k inside) (λ i low high. absurd (omega arith)) w
 
   module _ (store m : Meaning) (Else : Type 0) (final : List ℕ) (sifts : (l : ℕ) → l < levels (length bs) → Sifts m Else final (suc l) (place (length bs) l k).0) (sifts_data : Sifts store Else final 0 k) where
-    fetch_ends : (expected log : List ℕ) (answer : Result Unit Refusal) (block : List ℕ) → length log ≡ 2048 → AgreeAbove final log → expected ≡ image (true_part image bs k 0) → TrueAbove 0 log
+    fetch_ends : (expected log : List ℕ) (answer : Result Unit Reason) (block : List ℕ) → length log ≡ 2048 → AgreeAbove final log → expected ≡ image (true_part image bs k 0) → TrueAbove 0 log
         → FetchedBlock image store k expected log answer block final → ReadEnds store m Else answer block
     fetch_ends expected log answer block long agrees right above f =
         tried_elim image (ReadEnds store m Else answer block) f
@@ -129,23 +128,23 @@ module _ (image : List ℕ → List ℕ) (wide : (block : List ℕ) → length (
         let at : NoneOf image store k (image (true_part image bs k 0)) store.ways why = subst (λ e. NoneOf image store k e store.ways why) right none in
         inr (inr ((data_block k why, missed.0), inr (record { why = why; none = at }))))
 
-    ends_on : (walked : Result (List ℕ) Refusal) (log : List ℕ) (answer : Result Unit Refusal) (block : List ℕ) → length log ≡ 2048 → AgreeAbove final log → WalkEnds m Else walked log
-        → MatchResult walked (λ expected. FetchedBlock image store k expected log answer block final) (λ refusal. (answer ≡ Err refusal) × (block ≡ zeros) × (final ≡ log)) → ReadEnds store m Else answer block
+    ends_on : (walked : Result (List ℕ) Reason) (log : List ℕ) (answer : Result Unit Reason) (block : List ℕ) → length log ≡ 2048 → AgreeAbove final log → WalkEnds m Else walked log
+        → MatchResult walked (λ expected. FetchedBlock image store k expected log answer block final) (λ reason. (answer ≡ Err reason) × (block ≡ zeros) × (final ≡ log)) → ReadEnds store m Else answer block
     ends_on walked log answer block long agrees ends fetch =
         ⊎_elim
         (λ right.
         let f : FetchedBlock image store k (image (true_part image bs k 0)) log answer block final =
-        subst (λ r. MatchResult r (λ expected. FetchedBlock image store k expected log answer block final) (λ refusal. (answer ≡ Err refusal) × (block ≡ zeros) × (final ≡ log))) right.0 fetch in
+        subst (λ r. MatchResult r (λ expected. FetchedBlock image store k expected log answer block final) (λ reason. (answer ≡ Err reason) × (block ≡ zeros) × (final ≡ log))) right.0 fetch in
         fetch_ends (image (true_part image bs k 0)) log answer block long agrees refl right.1 f)
         (λ other. ⊎_elim (λ instead. inr (inl instead))
         (λ refused.
         let f : (answer ≡ Err refused.0.0) × (block ≡ zeros) × (final ≡ log) =
-        subst (λ r. MatchResult r (λ expected. FetchedBlock image store k expected log answer block final) (λ refusal. (answer ≡ Err refusal) × (block ≡ zeros) × (final ≡ log))) refused.0.1 fetch in
+        subst (λ r. MatchResult r (λ expected. FetchedBlock image store k expected log answer block final) (λ reason. (answer ≡ Err reason) × (block ≡ zeros) × (final ≡ log))) refused.0.1 fetch in
         inr (inr ((refused.0.0, f.0), inl refused.1)))
         other)
         ends
 
-    read_ends : (answer : Result Unit Refusal) (block : List ℕ) → Fetched image store m (length bs) k (root_of image bs) answer block final → ReadEnds store m Else answer block
+    read_ends : (answer : Result Unit Reason) (block : List ℕ) → Fetched image store m (length bs) k (root_of image bs) answer block final → ReadEnds store m Else answer block
     read_ends answer block f =
         let left : Leaves blank 1 (levels (length bs)) f.passed = walk_leaves image m (length bs) k (levels (length bs)) (root_of image bs) blank f.walked f.passed few blank_long f.walk in
         let after : Leaves f.passed 0 0 final = fetch_leaves image store k f.walked f.passed answer block final left.long f.fetch in
@@ -153,13 +152,13 @@ module _ (image : List ℕ → List ℕ) (wide : (block : List ℕ) → length (
         ends_on f.walked f.passed answer block left.long agrees (walk_ends m Else final sifts f.walked f.passed agrees f.walk) f.fetch
 
   -- a walk leaves the record as long, and part 0 blank
-  pub walk_long : (m : Meaning) (answer : Result (List ℕ) Refusal) (log : List ℕ) → Walked image m (length bs) k (levels (length bs)) (root_of image bs) blank answer log → (length log ≡ 2048) × (part log 0 ≡ part blank 0)
+  pub walk_long : (m : Meaning) (answer : Result (List ℕ) Reason) (log : List ℕ) → Walked image m (length bs) k (levels (length bs)) (root_of image bs) blank answer log → (length log ≡ 2048) × (part log 0 ≡ part blank 0)
   walk_long m answer log w =
       let left : Leaves blank 1 (levels (length bs)) log = walk_leaves image m (length bs) k (levels (length bs)) (root_of image bs) blank answer log few blank_long w in
       (left.long, left.apart 0 (inl (omega arith)))
 
   -- a read leaves the record as long
-  pub read_long : (store m : Meaning) (answer : Result Unit Refusal) (block log : List ℕ) → Fetched image store m (length bs) k (root_of image bs) answer block log → length log ≡ 2048
+  pub read_long : (store m : Meaning) (answer : Result Unit Reason) (block log : List ℕ) → Fetched image store m (length bs) k (root_of image bs) answer block log → length log ≡ 2048
   read_long store m answer block log f =
       let left : Leaves blank 1 (levels (length bs)) f.passed = walk_leaves image m (length bs) k (levels (length bs)) (root_of image bs) blank f.walked f.passed few blank_long f.walk in
       let after : Leaves f.passed 0 0 log = fetch_leaves image store k f.walked f.passed answer block log left.long f.fetch in
@@ -173,7 +172,7 @@ module _ (image : List ℕ → List ℕ) (wide : (block : List ℕ) → length (
   lies_data : (store : Meaning) → Lie store bs → (way : ℕ) (bytes : List ℕ) → Exists store way k → store.cell way k ≡ sure bytes → bytes ≡ true_part image bs k 0
   lies_data store lie way bytes there is = lie way k bytes there is inside
 
-  never_stuck : (m : Meaning) → Reaches image bs k m → Stuck m → ⊥
+  never_stuck : (m : Meaning) → Reaches image bs k m → Halted m → ⊥
   never_stuck m reaches stuck =
       let l = stuck.level in
       let found = reaches.sure_cell l stuck.below in
@@ -195,7 +194,7 @@ module _ (image : List ℕ → List ℕ) (wide : (block : List ℕ) → length (
           ⊎_elim inl (λ differs. inr (shown log j long h above (λ same. differs (sym here ∙ same)) (sym passes.as_expected ∙ ap image (sym here)))) (same_or_not bytes (true_part image bs k j))
 
       -- a walk that goes through comes to the image of the true data block over true tree blocks, or the record shows two blocks with one image
-      pub walk_true : (m : Meaning) (walked : Result (List ℕ) Refusal) (expected log log2 : List ℕ) → Walked image m (length bs) k (levels (length bs)) (root_of image bs) blank walked log → length log2 ≡ 2048
+      pub walk_true : (m : Meaning) (walked : Result (List ℕ) Reason) (expected log log2 : List ℕ) → Walked image m (length bs) k (levels (length bs)) (root_of image bs) blank walked log → length log2 ≡ 2048
           → ((i : ℕ) → 1 ≤ i → i ≤ levels (length bs) → part log2 i ≡ part log i) → walked ≡ Ok expected
           → (expected ≡ image (true_part image bs k 0)) × ((i : ℕ) → 1 ≤ i → i ≤ levels (length bs) → part log i ≡ true_part image bs k i) ⊎ Shown log2
       walk_true m walked expected log log2 w long agrees is =
@@ -205,25 +204,25 @@ module _ (image : List ℕ → List ℕ) (wide : (block : List ℕ) → length (
           (walk_ends m (Shown log2) log2 (λ l h. shown_or_true m log2 long (suc l) (place (length bs) l k).0 h) walked log agrees w)
 
       -- where the tree lies with a sure cell on each level, the walk goes through, or the record shows two blocks with one image
-      pub walk_goes : (m : Meaning) (walked : Result (List ℕ) Refusal) (log log2 : List ℕ) → Reaches image bs k m → Walked image m (length bs) k (levels (length bs)) (root_of image bs) blank walked log → length log2 ≡ 2048
+      pub walk_goes : (m : Meaning) (walked : Result (List ℕ) Reason) (log log2 : List ℕ) → Reaches image bs k m → Walked image m (length bs) k (levels (length bs)) (root_of image bs) blank walked log → length log2 ≡ 2048
           → ((i : ℕ) → 1 ≤ i → i ≤ levels (length bs) → part log2 i ≡ part log i)
           → (walked ≡ Ok (image (true_part image bs k 0))) × ((i : ℕ) → 1 ≤ i → i ≤ levels (length bs) → part log i ≡ true_part image bs k i) ⊎ Shown log2
       walk_goes m walked log log2 reaches w long agrees =
           ⊎_elim inl (λ other. ⊎_elim inr (λ refused. absurd (never_stuck m reaches refused.1)) other)
           (walk_ends m (Shown log2) log2 (λ l h. shown_or_true m log2 long (suc l) (place (length bs) l k).0 h) walked log agrees w)
 
-      read_ends_shown : (store m : Meaning) (answer : Result Unit Refusal) (block log : List ℕ) → Fetched image store m (length bs) k (root_of image bs) answer block log → ReadEnds store m (Shown log) answer block
+      read_ends_shown : (store m : Meaning) (answer : Result Unit Reason) (block log : List ℕ) → Fetched image store m (length bs) k (root_of image bs) answer block log → ReadEnds store m (Shown log) answer block
       read_ends_shown store m answer block log f =
           let long : length log ≡ 2048 = read_long store m answer block log f in
           read_ends store m (Shown log) log (λ l h. shown_or_true m log long (suc l) (place (length bs) l k).0 h) (shown_or_true store log long 0 k (omega arith)) answer block f
 
       -- an accepted read gives the data block, or the record shows two blocks with one image
-      pub read_right : (store m : Meaning) (answer : Result Unit Refusal) (block log : List ℕ) → Fetched image store m (length bs) k (root_of image bs) answer block log → answer ≡ Ok tt → (block ≡ slice_index_or bs k []) ⊎ Shown log
+      pub read_right : (store m : Meaning) (answer : Result Unit Reason) (block log : List ℕ) → Fetched image store m (length bs) k (root_of image bs) answer block log → answer ≡ Ok tt → (block ≡ slice_index_or bs k []) ⊎ Shown log
       read_right store m answer block log f is =
           ⊎_elim (λ right. inl right.1) (λ other. ⊎_elim inr (λ refused. absurd (ok_not_err tt refused.0.0 (sym is ∙ refused.0.1))) other) (read_ends_shown store m answer block log f)
 
       -- where the contents and the tree lie with sure cells on the way, a read is accepted and gives the data block, or the record shows two blocks with one image
-      pub read_goes : (store m : Meaning) (answer : Result Unit Refusal) (block log : List ℕ) → ReachesData bs k store → Reaches image bs k m → Fetched image store m (length bs) k (root_of image bs) answer block log
+      pub read_goes : (store m : Meaning) (answer : Result Unit Reason) (block log : List ℕ) → ReachesData bs k store → Reaches image bs k m → Fetched image store m (length bs) k (root_of image bs) answer block log
           → (answer ≡ Ok tt) × (block ≡ slice_index_or bs k []) ⊎ Shown log
       read_goes store m answer block log reaches_data reaches f =
           ⊎_elim inl (λ other. ⊎_elim inr (λ refused. absurd (⊎_elim (never_stuck m reaches) (never_missed store reaches_data) refused.1)) other) (read_ends_shown store m answer block log f)
@@ -255,7 +254,7 @@ module _ (image : List ℕ → List ℕ) (wide : (block : List ℕ) → length (
       inl (passes_truly image store k (true_part image bs k 0) (lies_data store reaches.lies) (image (true_part image bs k 0)) bytes (omega (arith, reaches.blocks, inside)) (λ way there. means.law_of_sound sound way k there) passes)
 
   -- on a sound device on which the tree lies, the walk goes through, over true tree blocks
-  pub walk_sound : (m : Meaning) (walked : Result (List ℕ) Refusal) (log : List ℕ) → IsMeaning m → m.sound ≡ true → total (length bs) ≤ m.blocks → Lie m (tree_of image bs)
+  pub walk_sound : (m : Meaning) (walked : Result (List ℕ) Reason) (log : List ℕ) → IsMeaning m → m.sound ≡ true → total (length bs) ≤ m.blocks → Lie m (tree_of image bs)
       → Walked image m (length bs) k (levels (length bs)) (root_of image bs) blank walked log → (walked ≡ Ok (image (true_part image bs k 0))) × ((i : ℕ) → 1 ≤ i → i ≤ levels (length bs) → part log i ≡ true_part image bs k i)
   walk_sound m walked log means sound enough lie w =
       let reaches : Reaches image bs k m = reaches_sound m means sound enough lie in
@@ -263,7 +262,7 @@ module _ (image : List ℕ → List ℕ) (wide : (block : List ℕ) → length (
       (walk_ends m ⊥ log (sifts_sound m log means sound reaches) walked log (λ i low high. refl) w)
 
   -- on sound devices on which the contents and the tree lie, a read is accepted and gives the data block
-  pub read_sound : (store m : Meaning) (answer : Result Unit Refusal) (block log : List ℕ) → IsMeaning store → store.sound ≡ true → length bs ≤ store.blocks → Lie store bs
+  pub read_sound : (store m : Meaning) (answer : Result Unit Reason) (block log : List ℕ) → IsMeaning store → store.sound ≡ true → length bs ≤ store.blocks → Lie store bs
       → IsMeaning m → m.sound ≡ true → total (length bs) ≤ m.blocks → Lie m (tree_of image bs) → Fetched image store m (length bs) k (root_of image bs) answer block log → (answer ≡ Ok tt) × (block ≡ slice_index_or bs k [])
   read_sound store m answer block log store_means store_sound store_enough store_lie means sound enough lie f =
       let reaches : Reaches image bs k m = reaches_sound m means sound enough lie in

@@ -1,7 +1,5 @@
 -- The worked cases, from the rules.
 use Rattle.std.specs.Prelude.{◌≡◌, [], ◌∷◌, map, refl}
-use Rattle.std.proofs.Common.{◌+◌, arith}
-use Rattle.std.proofs.lemmas.Bool.{cond-true, lt-ltb}
 use Rattle.device.proofs.Evicted.{least_goes, lowest_goes}
 use Rattle.geometry.specs.Geometry.{levels, place, total}
 use Rattle.volume.specs.Cases.{WorkedCases}
@@ -19,9 +17,7 @@ worked_cases =
     record {
       totals = totals_are;
       places = places_are;
-      cut_short = λ below is. omega (arith, is);
-      past_the_end = λ below is. omega (arith, is);
-      too_many_ways = λ first second five four. cond-true _ 0 _ (lt-ltb 8 (first.ways + second.ways) (omega (arith, five, four)));
-      lowest_goes = lowest_goes;
-      least_goes = least_goes;
+      offset = λ below. refl;
+      mirror = λ first second. (refl, refl);
+      evictions = (lowest_goes, least_goes);
     }

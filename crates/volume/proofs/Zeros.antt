@@ -3,37 +3,38 @@ use Rattle.std.proofs.Common.{◌≡◌, ℕ, zero, suc, ◌+◌, ◌-◌, ◌*�
 use Rattle.std.specs.Prelude.{Result}
 use Rattle.std.proofs.lemmas.Bool.{cases_lt}
 use Rattle.std.proofs.lemmas.List.{length-replicate, replicate_more, length_push, drop-append-le, take-append-le, drop-replicate, take-replicate, take_all, same_lists, get_or_append_left, get_or-replicate, get_or_push, set_at, length-take-le, length-map, map-append}
+use Rattle.device.specs.declared.device.Device
 use Rattle.device.specs.declared.fault.Fault.{Fault}
-use Rattle.device.specs.Meaning.{Meaning, Written}
 use Rattle.geometry.specs.Geometry.{up, total}
 use Rattle.geometry.proofs.Numbers.{total_least}
 use Rattle.tree.specs.Layout.{pack, root_of, side_by_side, tree_of}
 use Rattle.tree.proofs.Cells.{flat, flat_padded, sixteen, length-pack, get_or-pack}
 use Rattle.tree.proofs.Whole.{length-tree, tree_more, tree_one}
-use Rattle.volume.specs.Effects.{Rewritten}
 use Rattle.volume.specs.Format.{IsLevel, alike}
-use Rattle.volume.proofs.Effects.{rewritten_more}
+use Rattle.volume.specs.Writes.{InTurn}
+use Rattle.volume.proofs.Turns.{in_turn_more}
 
--- one copy more
-pub copied_more : {m m1 m2 : Meaning} (before : List (List ℕ)) (block : List ℕ) (from n : ℕ) (answer : Result Unit Fault) → length before ≡ from → from ≤ n
-    → Rewritten m (before ++ replicate (n - from) block) m1 → Written m1 n block answer m2 → Rewritten m (before ++ replicate (n + 1 - from) block) m2
-copied_more {m} {m1} {m2} before block from n answer size h r w =
-    let so_far = replicate (n - from) block in
-    let e : n + 1 - from ≡ n - from + 1 = omega arith in
-    let same : (before ++ so_far) ++ block ∷ [] ≡ before ++ replicate (n + 1 - from) block =
-    append_assoc before so_far (block ∷ []) ∙ ap (λ l. before ++ l) (replicate_more (n - from) block) ∙ ap (λ k. before ++ replicate k block) (sym e) in
-    let at : n ≡ length (before ++ so_far) = omega (arith, length-append before so_far, length-replicate (n - from) block) in
-    subst (λ l. Rewritten m l m2) same (rewritten_more n r at w)
+module _ {D : Type 0} (d : Device.Ghosts D) where
+  -- one copy more
+  pub copied_more : (s t u : D) (before : List (List ℕ)) (block : List ℕ) (from n : ℕ) (answer : Result Unit Fault) → length before ≡ from → from ≤ n
+      → InTurn d 0 (before ++ replicate (n - from) block) s t → d.writes t n block answer u → InTurn d 0 (before ++ replicate (n + 1 - from) block) s u
+  copied_more s t u before block from n answer size h turn step =
+      let so_far = replicate (n - from) block in
+      let e : n + 1 - from ≡ n - from + 1 = omega arith in
+      let same : (before ++ so_far) ++ block ∷ [] ≡ before ++ replicate (n + 1 - from) block =
+      append_assoc before so_far (block ∷ []) ∙ ap (λ l. before ++ l) (replicate_more (n - from) block) ∙ ap (λ k. before ++ replicate k block) (sym e) in
+      let at : n ≡ 0 + length (before ++ so_far) = omega (arith, length-append before so_far, length-replicate (n - from) block) in
+      subst (λ l. InTurn d 0 l s u) same (in_turn_more d 0 n (before ++ so_far) block answer s t u turn at step)
 
--- a level written, copies first
-pub level_written : {m m1 m2 : Meaning} (before : List (List ℕ)) (count : ℕ) (others last : List ℕ) (from : ℕ) (answer : Result Unit Fault) → length before ≡ from → 1 ≤ count
-    → Rewritten m (before ++ replicate (from + count - 1 - from) others) m1 → Written m1 (from + count - 1) last answer m2 → Rewritten m (before ++ alike count others last) m2
-level_written {m} {m1} {m2} before count others last from answer size least r w =
-    let copies = replicate (from + count - 1 - from) others in
-    let e : from + count - 1 - from ≡ count - 1 = omega arith in
-    let same : (before ++ copies) ++ last ∷ [] ≡ before ++ alike count others last = append_assoc before copies (last ∷ []) ∙ ap (λ n. before ++ (replicate n others ++ last ∷ [])) e in
-    let at : from + count - 1 ≡ length (before ++ copies) = omega (arith, length-append before copies, length-replicate (from + count - 1 - from) others) in
-    subst (λ l. Rewritten m l m2) same (rewritten_more (from + count - 1) r at w)
+  -- a level written, copies first
+  pub level_written : (s t u : D) (before : List (List ℕ)) (count : ℕ) (others last : List ℕ) (from : ℕ) (answer : Result Unit Fault) → length before ≡ from → 1 ≤ count
+      → InTurn d 0 (before ++ replicate (from + count - 1 - from) others) s t → d.writes t (from + count - 1) last answer u → InTurn d 0 (before ++ alike count others last) s u
+  level_written s t u before count others last from answer size least turn step =
+      let copies = replicate (from + count - 1 - from) others in
+      let e : from + count - 1 - from ≡ count - 1 = omega arith in
+      let same : (before ++ copies) ++ last ∷ [] ≡ before ++ alike count others last = append_assoc before copies (last ∷ []) ∙ ap (λ n. before ++ (replicate n others ++ last ∷ [])) e in
+      let at : from + count - 1 ≡ 0 + length (before ++ copies) = omega (arith, length-append before copies, length-replicate (from + count - 1 - from) others) in
+      subst (λ l. InTurn d 0 l s u) same (in_turn_more d 0 (from + count - 1) (before ++ copies) last answer s t u turn at step)
 
 pub length_alike : (count : ℕ) (others last : List ℕ) → 1 ≤ count → length (alike count others last) ≡ count
 length_alike count others last least = omega (arith, length_push (replicate (count - 1) others) last, length-replicate (count - 1) others)

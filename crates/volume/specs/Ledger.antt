@@ -1,11 +1,7 @@
 -- The ledger: what a volume ought to hold, by the calls that were made and what they answered.
-use Rattle.std.specs.Prelude.{◌≡◌, ℕ, Bool, true, false, cond, Option, Some, None, List, [], ◌∷◌, set, Result, Ok, Err, is_some}
-use Rattle.volume.specs.declared.entry.Call.{Call}
-use Rattle.volume.specs.declared.entry.Call.TheVariants.{Open, Begin, Read, Write, Keep, Leave, Shut}
-use Rattle.volume.specs.declared.entry.Entry.{Entry}
-use Rattle.volume.specs.declared.refusal.Refusal.{Refusal}
-use Rattle.volume.specs.declared.refusal.Refusal.TheVariants.{Closed, Opened, SlipOut, WrongSlip, WrongParts, NeverFormatted, OtherKind, DataCount, OtherCount, TreeCount, BlockArea, RecordArea, PastLast, TreeBlock, DataBlock, Unwritten, NotClear}
-use Rattle.volume.specs.Refusals.{carried}
+use Rattle.std.specs.Prelude.{◌≡◌, ℕ, Bool, true, false, cond, nat_eq, Option, Some, None, List, [], ◌∷◌, set, Result, Ok, Err, is_some}
+use Rattle.volume.specs.Refusals.{Reason}
+use Rattle.volume.specs.Story.{Call, Made, begins, keeps, leaves, opens, reads, shuts, writes}
 
 -- the blocks as last put in, and as last kept; whether the volume is open, and whether a slip is out
 pub record Ledger : Type 0 where
@@ -19,82 +15,50 @@ abbrev pub afresh : List (List ℕ) → Ledger
 afresh contents = record { contents = contents; kept = contents; is_open = false; slip_out = false }
 
 -- the call was accepted
-abbrev pub accepted : Option (Result Unit Refusal) → Bool
-accepted None = false
-accepted (Some (Ok done)) = true
-accepted (Some (Err refusal)) = false
-
-abbrev pub is_unwritten : Refusal → Bool
-is_unwritten (Unwritten failed) = true
-is_unwritten Closed = false
-is_unwritten Opened = false
-is_unwritten SlipOut = false
-is_unwritten WrongSlip = false
-is_unwritten WrongParts = false
-is_unwritten NeverFormatted = false
-is_unwritten OtherKind = false
-is_unwritten DataCount = false
-is_unwritten OtherCount = false
-is_unwritten TreeCount = false
-is_unwritten BlockArea = false
-is_unwritten RecordArea = false
-is_unwritten PastLast = false
-is_unwritten (TreeBlock failed) = false
-is_unwritten (DataBlock failed) = false
-is_unwritten NotClear = false
-
--- a write puts its block in where it is accepted, and where a device refused a write
-abbrev pub puts_in : Option (Result Unit Refusal) → Bool
-puts_in None = false
-puts_in (Some (Ok done)) = true
-puts_in (Some (Err refusal)) = is_unwritten refusal
+abbrev pub accepted : Result Unit Reason → Bool
+accepted (Ok done) = true
+accepted (Err e) = false
 
 -- a read or write got past its checks, and left the record of its walk: accepted, or refused where a device was to blame
-abbrev pub walked : Option (Result Unit Refusal) → Bool
-walked None = false
-walked (Some (Ok done)) = true
-walked (Some (Err refusal)) = is_some (carried refusal)
+abbrev pub walked : Result Unit Reason → Bool
+walked (Ok done) = true
+walked (Err e) = is_some e.stuck
 
 -- what an accepted call changes
-abbrev pub changed : Ledger → Call → List ℕ → Ledger
-changed l Open block = record l { contents = l.kept; is_open = true }
-changed l (Begin hand) block = record l { slip_out = true }
-changed l (Read n) block = l
-changed l (Write hand n) block = record l { contents = set l.contents n block }
-changed l (Keep hand) block = record l { kept = l.contents; slip_out = false }
-changed l (Leave hand) block = record l { contents = l.kept; is_open = false; slip_out = false }
-changed l Shut block = record l { is_open = false }
+abbrev pub changed : Ledger → List ℕ → Call → Ledger
+changed l block opens = record l { contents = l.kept; is_open = true }
+changed l block begins = record l { slip_out = true }
+changed l block (writes slip n) = record l { contents = set l.contents n block }
+changed l block (keeps slip) = record l { kept = l.contents; slip_out = false }
+changed l block (leaves slip) = record l { contents = l.kept; is_open = false; slip_out = false }
+changed l block shuts = record l { is_open = false }
+changed l block _ = l
 
--- the ledger is changed by an accepted call, and by a write that puts its block in
-abbrev pub counts : Call → Option (Result Unit Refusal) → Bool
-counts Open answer = accepted answer
-counts (Begin hand) answer = accepted answer
-counts (Read n) answer = accepted answer
-counts (Write hand n) answer = puts_in answer
-counts (Keep hand) answer = accepted answer
-counts (Leave hand) answer = accepted answer
-counts Shut answer = accepted answer
+-- the ledger is changed by an accepted call, and by a write that a device refused
+abbrev pub counts : Result Unit Reason → Call → Bool
+counts (Err e) (writes slip n) = nat_eq e.number 53
+counts answer _ = accepted answer
 
--- the ledger is fed one call, as its entry is afterwards
-abbrev pub feed : Ledger → Entry → Ledger
-feed l e = cond (counts e.call e.answer) (changed l e.call e.block.items) l
+-- the ledger is fed one call
+abbrev pub feed : Ledger → Made → Ledger
+feed l m = cond (counts m.answer m.call) (changed l m.block m.call) l
 
--- and all calls of a list
-abbrev pub fed : Ledger → List Entry → Ledger
+-- and all calls of a story
+abbrev pub fed : Ledger → List Made → Ledger
 fed l [] = l
-fed l (e ∷ es) = fed (feed l e) es
+fed l (m ∷ ms) = fed (feed l m) ms
 
--- an accepted leave
-abbrev pub leaves : Call → Option (Result Unit Refusal) → Bool
-leaves Open answer = false
-leaves (Begin hand) answer = false
-leaves (Read n) answer = false
-leaves (Write hand n) answer = false
-leaves (Keep hand) answer = false
-leaves (Leave hand) answer = accepted answer
-leaves Shut answer = false
+-- the data block on whose path a call walks, if it is one that does
+abbrev pub path_of : Call → Option ℕ
+path_of (reads n) = Some n
+path_of (writes slip n) = Some n
+path_of _ = None
 
--- no leave is accepted in the list
-abbrev pub NoLeave : List Entry → Type 0
+abbrev pub is_leave : Call → Bool
+is_leave (leaves slip) = true
+is_leave _ = false
+
+-- no leave is accepted in the story
+abbrev pub NoLeave : List Made → Type 0
 NoLeave [] = Unit {0}
-NoLeave (e ∷ es) = (leaves e.call e.answer ≡ false) × NoLeave es
+NoLeave (m ∷ ms) = (cond (is_leave m.call) (accepted m.answer) false ≡ false) × NoLeave ms

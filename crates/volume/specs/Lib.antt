@@ -10,6 +10,7 @@ pub mod Parts
 pub mod Promise
 pub mod Record
 pub mod Refusals
+pub mod Replay
 pub mod Slips
 pub mod Story
 pub mod View

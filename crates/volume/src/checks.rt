@@ -1,6 +1,7 @@
 // What the calls look at first, in the order of their refusals.
 ghost use Rattle.std.specs.Prelude.{◌≡◌, MatchResult, Ok, Err};
 ghost use Rattle.volume.specs.Checks.{areas_check, counts_check, register_check};
+ghost use Rattle.volume.specs.Refusals.{reason, told};
 
 use crate::refusal::Refusal;
 use crate::register::Register;
@@ -14,7 +15,7 @@ pub(crate) fn fitting(
     store_blocks: usize,
     tree_blocks: usize,
 ) -> Result<Geometry, Refusal>
-    ensures { let check = register_check register.now.blocks register.now.kind kind store_blocks tree_blocks in MatchResult result (λ g. (g.blocks ≡ register.now.blocks) × (check ≡ Ok tt)) (λ e. check ≡ Err e) }
+    ensures { let check = register_check register.now.blocks register.now.kind kind store_blocks tree_blocks in MatchResult result (λ g. (g.blocks ≡ register.now.blocks) × (check ≡ Ok tt)) (λ e. check ≡ Err (reason e)) }
 {
     let geometry = Geometry::new(register.blocks).ok_or(Refusal::NeverFormatted)?;
     if register.kind != kind {
@@ -31,7 +32,7 @@ pub(crate) fn fitting(
 
 // The numbers of a tree over all blocks of a data device, where the devices may be formatted.
 pub(crate) fn formattable(store_blocks: usize, tree_blocks: usize) -> Result<Geometry, Refusal>
-    ensures { let check = counts_check store_blocks tree_blocks in MatchResult result (λ g. (g.blocks ≡ store_blocks) × (check ≡ Ok tt)) (λ e. check ≡ Err e) }
+    ensures { let check = counts_check store_blocks tree_blocks in MatchResult result (λ g. (g.blocks ≡ store_blocks) × (check ≡ Ok tt)) (λ e. check ≡ Err (reason e)) }
 {
     let geometry = Geometry::new(store_blocks).ok_or(Refusal::DataCount)?;
     if tree_blocks < geometry.total() {
@@ -47,7 +48,7 @@ pub(crate) fn check_areas(
     block_length: usize,
     log_length: usize,
 ) -> Result<(), Refusal>
-    ensures { result ≡ areas_check blocks number block_length log_length }
+    ensures { told result ≡ areas_check blocks number block_length log_length }
 {
     if block_length != 512 {
         return Err(Refusal::BlockArea);

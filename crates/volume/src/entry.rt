@@ -1,29 +1,16 @@
-// A list of calls, as it is played on a volume.
+// A list of calls, as it is carried out on a volume.
 use crate::refusal::Refusal;
-use crate::slip::Slip;
 
-// Which of the two slips in hand a call takes along, or where begin puts the new one.
-#[derive(Clone, Copy, PartialEq, Eq, Debug)]
-pub enum Hand {
-    Left,
-    Right,
-}
-
-// The slips in hand, of this volume or of any other.
-pub struct Hands {
-    pub left: Option<Slip>,
-    pub right: Option<Slip>,
-}
-
-// A call of a volume. A number is that of a block.
+// A call of a volume. A number is that of a block, a place that of a slip in a pool: the slip that the call shows, and for begin where
+// the new one goes.
 #[derive(Clone, Copy, PartialEq, Eq, Debug)]
 pub enum Call {
     Open,
-    Begin { hand: Hand },
+    Begin { place: usize },
     Read { number: usize },
-    Write { hand: Hand, number: usize },
-    Keep { hand: Hand },
-    Leave { hand: Hand },
+    Write { place: usize, number: usize },
+    Keep { place: usize },
+    Leave { place: usize },
     Shut,
 }
 
@@ -35,6 +22,7 @@ pub struct Entry {
     pub block: Vec<u8>,
     // The record area.
     pub log: Vec<u8>,
-    // None as long as the call has not been made; it cannot be made where the slip that it takes is not in hand, or begin's hand is full.
+    // None where the call was not made: before the list is carried out; where the place that it names holds no slip to spend, or does not
+    // exist; and for a begin whose place is taken, or does not exist.
     pub answer: Option<Result<(), Refusal>>,
 }

@@ -1,11 +1,10 @@
 // What formatting writes: zeros to the data device, and the hash tree over them to the tree device. It goes on past a refused write:
 // a block with a sure cell has every write accepted, so a refusal takes nothing from what a read is promised.
 ghost use Rattle.std.specs.Prelude.{◌≡◌, ℕ, ◌-◌, ◌≤◌, List, ◌++◌, length, replicate};
-ghost use Rattle.device.specs.Meaning.{Meaning};
 ghost use Rattle.geometry.specs.Geometry.{up};
 ghost use Rattle.tree.specs.Layout.{zero_block, side_by_side, pack, tree_of, root_of};
-ghost use Rattle.volume.specs.Effects.{Rewritten};
 ghost use Rattle.volume.specs.Format.{IsLevel, alike};
+ghost use Rattle.volume.specs.Writes.{InTurn};
 
 use crate::zero::ZERO_BLOCK;
 use device::device::Device;
@@ -14,7 +13,7 @@ use geometry::Geometry;
 
 // Writes zeros to the first `count` blocks.
 pub(crate) fn write_zeros<D: Device>(device: &mut D, count: usize)
-    ensures { Rewritten (D.meaning device.old) (replicate count zero_block) (D.meaning device.new) }
+    ensures { InTurn D.Device.own 0 (replicate count zero_block) device.old device.new }
 {
     write_copies(device, 0, count, &ZERO_BLOCK);
 }
@@ -26,7 +25,7 @@ pub(crate) fn write_zero_tree<D: Device, H: Hash>(
     hash: &H,
     geometry: Geometry,
 ) -> [u8; 32]
-    ensures tree { Rewritten (D.meaning device.old) (tree_of (H.Hash.image hash.now) (replicate geometry.blocks zero_block)) (D.meaning device.new) }
+    ensures tree { InTurn D.Device.own 0 (tree_of (H.Hash.image hash.now) (replicate geometry.blocks zero_block)) device.old device.new }
     ensures root { result ≡ root_of (H.Hash.image hash.now) (replicate geometry.blocks zero_block) }
 {
     let cell = hash.image_of(&ZERO_BLOCK);
@@ -36,7 +35,7 @@ pub(crate) fn write_zero_tree<D: Device, H: Hash>(
 // Writes a level, and before it all levels above it, and answers the root. It takes two images at each level, one at the top: all
 // blocks of a level but the last are one block. For the levels above it calls itself, twice at most.
 fn write_levels<D: Device, H: Hash>(device: &mut D, hash: &H, level: &Level) -> [u8; 32]
-    ensures tree { (contents : List (List ℕ)) → IsLevel (H.Hash.image hash.now) contents level.now.count level.now.others level.now.last → Rewritten (D.meaning device.old) (tree_of (H.Hash.image hash.now) contents) (D.meaning device.new) }
+    ensures tree { (contents : List (List ℕ)) → IsLevel (H.Hash.image hash.now) contents level.now.count level.now.others level.now.last → InTurn D.Device.own 0 (tree_of (H.Hash.image hash.now) contents) device.old device.new }
     ensures root { (contents : List (List ℕ)) → IsLevel (H.Hash.image hash.now) contents level.now.count level.now.others level.now.last → result ≡ root_of (H.Hash.image hash.now) contents }
 {
     let last = hash.image_of(&level.last);
@@ -57,7 +56,7 @@ fn write_levels<D: Device, H: Hash>(device: &mut D, hash: &H, level: &Level) -> 
 // Writes one block to each number from `from` on and below `to`.
 fn write_copies<D: Device>(device: &mut D, from: usize, to: usize, block: &[u8; 512])
     requires { from ≤ to }
-    ensures { (m : Meaning) (before : List (List ℕ)) → length before ≡ from → Rewritten m before (D.meaning device.old) → Rewritten m (before ++ replicate (to - from) block.now) (D.meaning device.new) }
+    ensures { (s : D) (before : List (List ℕ)) → length before ≡ from → InTurn D.Device.own 0 before s device.old → InTurn D.Device.own 0 (before ++ replicate (to - from) block.now) s device.new }
 {
     for number in from..to {
         let _ = device.write(number, block);
@@ -91,7 +90,7 @@ impl Level {
     // Writes the level from block `from` on.
     fn write<D: Device>(&self, device: &mut D, from: usize)
         requires { from ≤ 65536 }
-        ensures { (m : Meaning) (before : List (List ℕ)) → length before ≡ from → Rewritten m before (D.meaning device.old) → Rewritten m (before ++ alike self.now.count self.now.others self.now.last) (D.meaning device.new) }
+        ensures { (s : D) (before : List (List ℕ)) → length before ≡ from → InTurn D.Device.own 0 before s device.old → InTurn D.Device.own 0 (before ++ alike self.now.count self.now.others self.now.last) s device.new }
     {
         let end = from + self.count - 1;
         write_copies(device, from, end, &self.others);

@@ -1,6 +1,7 @@
 // Looking into a volume without opening it.
 ghost use Rattle.volume.specs.Calls.{LookStep};
 ghost use Rattle.volume.specs.Promise.{LooksExactly};
+ghost use Rattle.volume.specs.Refusals.{told};
 
 use crate::checks::{check_areas, fitting};
 use crate::refusal::Refusal;
@@ -20,8 +21,8 @@ pub fn look<S: Source, U: Source, H: Hash>(
     block: &mut [u8],
     log: &mut [u8],
 ) -> Result<(), Refusal>
-    ensures step { LookStep S.meaning U.meaning (H.Hash.image hash.now) H.Hash.KIND store.old tree.old register.now number block.old log.old result block.new log.new store.new tree.new }
-    ensures exactly { LooksExactly S.meaning U.meaning (H.Hash.image hash.now) H.Hash.KIND }
+    ensures step { LookStep S.Source.own U.Source.own (H.Hash.image hash.now) H.Hash.KIND store.old tree.old register.now number block.old log.old (told result) block.new log.new store.new tree.new }
+    ensures exactly { LooksExactly S.Source.own U.Source.own (H.Hash.image hash.now) H.Hash.KIND }
 {
     let geometry = fitting(register, H::KIND, store.blocks(), tree.blocks())?;
     check_areas(geometry.blocks, number, block.len(), log.len())?;

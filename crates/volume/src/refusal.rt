@@ -85,11 +85,11 @@ impl Failed {
 }
 
 impl Refusal {
-    ghost use Rattle.volume.specs.Refusals.{carried, refusal_number};
+    ghost use Rattle.volume.specs.Refusals.{reason, stuck_in};
 
     // Where the call got stuck, and why, where a device is to blame.
     pub fn failed(self) -> Option<Failed>
-        ensures { result ≡ carried self }
+        ensures { stuck_in result ≡ (reason self).stuck }
     {
         match self {
             Refusal::TreeBlock(failed) | Refusal::DataBlock(failed) | Refusal::Unwritten(failed) =>
@@ -99,7 +99,7 @@ impl Refusal {
     }
 
     pub fn number(self) -> u8
-        ensures { result ≡ refusal_number self }
+        ensures { result ≡ (reason self).number }
     {
         match self {
             Refusal::Closed => 40,

@@ -19,8 +19,8 @@ pub struct Register {
 }
 
 impl Register {
-    ghost use Rattle.volume.specs.declared.refusal.Refusal.TheVariants.{WrongParts};
     ghost use Rattle.volume.specs.Parts.{Holds, MayHold};
+    ghost use Rattle.volume.specs.Refusals.{plain, reason};
 
     // Never formatted.
     pub fn blank() -> Register
@@ -34,7 +34,7 @@ impl Register {
     }
 
     pub fn from_parts(blocks: usize, kind: u8, root: [u8; 32]) -> Result<Register, Refusal>
-        ensures { MatchResult result (λ r. MayHold blocks kind × Holds r blocks kind root) (λ e. (e ≡ WrongParts) × (MayHold blocks kind → ⊥)) }
+        ensures { MatchResult result (λ r. MayHold blocks kind × Holds r blocks kind root) (λ e. (reason e ≡ plain 25) × (MayHold blocks kind → ⊥)) }
     {
         if (1..=MOST).contains(&blocks) && kind > 0 {
             Ok(Register { blocks, kind, root })

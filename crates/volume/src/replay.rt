@@ -1,183 +1,187 @@
-// A list of calls played on a volume.
-ghost use Rattle.std.specs.Prelude.{◌≡◌, Some};
-ghost use Rattle.volume.specs.Slips.{back, unspent};
+// A list of calls carried out on a volume, with a pool of slips.
+ghost use Rattle.std.specs.Prelude.{◌≡◌, ◌<◌, length, slice_set, None, Some, MatchBool, MatchOption};
+ghost use Rattle.volume.specs.Slips.{slip_at};
 
-use crate::entry::{Call, Entry, Hand, Hands};
+use crate::entry::{Call, Entry};
 use crate::refusal::Refusal;
 use crate::register::Register;
 use crate::slip::{Slip, Unspent};
 use crate::volume::Volume;
+use device::cache::Cache;
 use device::device::Device;
+use device::mirror::Mirror;
+use device::offset::Offset;
 use digest::hash::Hash;
+use std::mem;
 
-impl Hands {
-    ghost use Rattle.std.specs.Prelude.{Option, None, MatchOption};
-    ghost use Rattle.volume.specs.declared.slip.Slip.{Slip};
-    ghost use Rattle.volume.specs.Story.{joined, slip_in, with_slip};
-
-    fn slip(&self, hand: Hand) -> Option<&Slip>
-        ensures { MatchOption result (slip_in self.now hand ≡ None) (λ slip. slip_in self.now hand ≡ Some slip.now) }
-    {
-        match hand {
-            Hand::Left => self.left.as_ref(),
-            Hand::Right => self.right.as_ref(),
-        }
+// The slip at a place, where there is one.
+fn shown(slips: &[Option<Slip>], place: usize) -> Option<&Slip>
+    ensures { MatchOption result (slip_at slips.now place ≡ None) (λ s. slip_at slips.now place ≡ Some s.now) }
+{
+    match slips.get(place) {
+        Some(Some(slip)) => Some(slip),
+        _ => None,
     }
+}
 
-    // What is in a hand, and in the other.
-    fn parted(self, hand: Hand) -> (Option<Slip>, Option<Slip>)
-        ensures { (result.0 ≡ slip_in self hand) × ((slip : Option Slip) → joined hand slip result.1 ≡ with_slip self hand slip) }
-    {
-        let Hands { left, right } = self;
-        match hand {
-            Hand::Left => (left, right),
-            Hand::Right => (right, left),
-        }
+// Whether there is such a place, and it is empty.
+fn is_free(slips: &[Option<Slip>], place: usize) -> bool
+    ensures { MatchBool result ((place < length slips.now) × (slip_at slips.now place ≡ None)) ((place < length slips.now) × (slip_at slips.now place ≡ None) → ⊥) }
+{
+    matches!(slips.get(place), Some(None))
+}
+
+// Takes the slip from a place, where there is one.
+fn take(slips: &mut [Option<Slip>], place: usize) -> Option<Slip>
+    ensures taken { result ≡ slip_at slips.old place }
+    ensures rest { slips.new ≡ slice_set slips.old place None }
+{
+    if place >= slips.len() {
+        return None;
     }
+    slips[place].take()
+}
 
-    fn of(hand: Hand, slip: Option<Slip>, other: Option<Slip>) -> Hands
-        ensures { result ≡ joined hand slip other }
-    {
-        match hand {
-            Hand::Left => Hands {
-                left: slip,
-                right: other,
-            },
-            Hand::Right => Hands {
-                left: other,
-                right: slip,
-            },
-        }
+// Puts a slip into an empty place.
+fn lay(slips: &mut [Option<Slip>], place: usize, slip: Slip)
+    requires inside { place < length slips.old }
+    requires free { slip_at slips.old place ≡ None }
+    ensures { slips.new ≡ slice_set slips.old place (Some slip) }
+{
+    // An assignment would let go what was there.
+    if let Some(other) = mem::replace(&mut slips[place], Some(slip)) {
+        other.spend();
     }
 }
 
 impl<D: Device, T: Device, H: Hash> Volume<D, T, H> {
-    ghost use Rattle.std.specs.Prelude.{MatchOption};
+    ghost use Rattle.volume.specs.declared.entry.Call.TheVariants.{Begin, Keep, Leave};
     ghost use Rattle.volume.specs.declared.register.Register.{Register};
-    ghost use Rattle.volume.specs.EveryPile.{WholePromise};
+    ghost use Rattle.device.specs.Piles.{cache, mirror, offset, one, other, pile_device, pile_source};
+    ghost use Rattle.volume.specs.EveryPile.{LayerSays, WholePromise};
+    ghost use Rattle.volume.specs.Replay.{Balance, Done, LeftOut, Replayed, Turn};
     ghost use Rattle.volume.specs.Slips.{slip_number};
-    ghost use Rattle.volume.specs.Story.{BeginCall, KeepCall, LeaveCall, Idle, Step, Story, slip_in, state, with_its_slip};
-    ghost use Rattle.volume.specs.View.{view_of};
+    ghost use Rattle.volume.specs.Story as story;
+    ghost use Rattle.volume.specs.Story.{state};
+    ghost use Rattle.volume.specs.View.{base, view};
 
-    // Makes the calls of a list one after the other. Each answer, area and record is in the list afterwards, and what slips are left are
-    // handed back. What it did is a story, and of every story over every pile and under every hash the promise holds.
-    pub fn replay(&mut self, register: &mut Register, hands: Hands, entries: &mut [Entry]) -> Hands
-        ensures story { Story (view_of D.Source.own T.Source.own H.Hash.own) (state self.old register.old hands) entries.old entries.new (state self.new register.new result) }
+    // Carries out a list of calls, one after the other, with the slips of a pool. Each answer, area and record is in the list afterwards.
+    // A call whose place holds no slip to spend is left out, and so is a begin whose place is not free, and either if there is no such
+    // place: such a call has no answer. The calls that it made are a story, and of every story over every pile and under every hash the
+    // promise holds.
+    pub fn replay(
+        &mut self,
+        register: &mut Register,
+        slips: &mut [Option<Slip>],
+        entries: &mut [Entry],
+    )
+        ensures replayed { Replayed (base D.Source.own T.Source.own D.Device.own T.Device.own H.Hash.own) (state self.old register.old) slips.old entries.old entries.new slips.new (state self.new register.new) }
+        ensures balance { let view = view (base D.Source.own T.Source.own D.Device.own T.Device.own H.Hash.own) in Balance (view self.old) slips.old slips.new (view self.new) }
         ensures promise { WholePromise D.Source.own T.Source.own D.Device.own T.Device.own H.Hash.own }
+        ensures offset_says { let own = ⟦<Offset<D> as Device>⟧ in LayerSays (pile_source D.Source.own T.Source.own (offset one)) (pile_device D.Source.own T.Source.own D.Device.own T.Device.own (offset one)) own.meaning own.reads own.writes own.settles }
+        ensures mirror_says { let own = ⟦<Mirror<D, T> as Device>⟧ in LayerSays (pile_source D.Source.own T.Source.own (mirror one other)) (pile_device D.Source.own T.Source.own D.Device.own T.Device.own (mirror one other)) own.meaning own.reads own.writes own.settles }
+        ensures cache_says { let own = ⟦<Cache<D> as Device>⟧ in LayerSays (pile_source D.Source.own T.Source.own (cache one)) (pile_device D.Source.own T.Source.own D.Device.own T.Device.own (cache one)) own.meaning own.reads own.writes own.settles }
     {
-        self.play(register, hands, entries)
+        self.carry_out(register, slips, entries);
     }
 
-    fn play(&mut self, register: &mut Register, hands: Hands, entries: &mut [Entry]) -> Hands
-        ensures { Story (view_of D.Source.own T.Source.own H.Hash.own) (state self.old register.old hands) entries.old entries.new (state self.new register.new result) }
+    fn carry_out(
+        &mut self,
+        register: &mut Register,
+        slips: &mut [Option<Slip>],
+        entries: &mut [Entry],
+    )
+        ensures replayed { Replayed (base D.Source.own T.Source.own D.Device.own T.Device.own H.Hash.own) (state self.old register.old) slips.old entries.old entries.new slips.new (state self.new register.new) }
+        ensures balance { let view = view (base D.Source.own T.Source.own D.Device.own T.Device.own H.Hash.own) in Balance (view self.old) slips.old slips.new (view self.new) }
     {
-        let mut hands = hands;
         for entry in entries.iter_mut() {
-            hands = self.step(register, hands, entry);
+            self.step(register, slips, entry);
         }
-        hands
     }
 
-    // Makes one call, or leaves its answer out where it cannot be made.
-    fn step(&mut self, register: &mut Register, hands: Hands, entry: &mut Entry) -> Hands
-        ensures { Step (view_of D.Source.own T.Source.own H.Hash.own) (state self.old register.old hands) entry.old entry.new (state self.new register.new result) }
+    // Makes one call, or leaves it out.
+    fn step(&mut self, register: &mut Register, slips: &mut [Option<Slip>], entry: &mut Entry)
+        ensures { Turn (base D.Source.own T.Source.own D.Device.own T.Device.own H.Hash.own) (state self.old register.old) slips.old entry.old entry.new slips.new (state self.new register.new) }
     {
         match entry.call {
-            Call::Open => {
-                entry.answer = Some(self.open(register));
-                hands
-            }
-            Call::Begin { hand } => self.begin_with(hands, hand, entry),
-            Call::Read { number } => {
-                entry.answer = Some(self.read(number, &mut entry.block, &mut entry.log));
-                hands
-            }
-            Call::Write { hand, number } => {
-                entry.answer = match hands.slip(hand) {
+            Call::Open => entry.answer = Some(self.open(register)),
+            Call::Begin { place } => self.begin_at(slips, place, entry),
+            Call::Read { number } => entry.answer = Some(self.read(
+                number,
+                &mut entry.block,
+                &mut entry.log,
+            )),
+            Call::Write { place, number } => {
+                entry.answer = match shown(slips, place) {
                     None => None,
                     Some(slip) => Some(self.write(slip, number, &entry.block, &mut entry.log)),
                 };
-                hands
             }
-            Call::Keep { hand } => self.keep_with(register, hands, hand, entry),
-            Call::Leave { hand } => self.leave_with(hands, hand, entry),
-            Call::Shut => {
-                entry.answer = Some(self.shut());
-                hands
-            }
+            Call::Keep { place } => self.keep_with(register, slips, place, entry),
+            Call::Leave { place } => self.leave_with(slips, place, entry),
+            Call::Shut => entry.answer = Some(self.shut()),
         }
     }
 
-    // Begins, where the hand is free for the slip.
-    fn begin_with(&mut self, hands: Hands, hand: Hand, entry: &mut Entry) -> Hands
-        ensures { (r : Register) → MatchOption (slip_in hands hand) (BeginCall (view_of D.Source.own T.Source.own H.Hash.own) (state self.old r hands) entry.old entry.new (state self.new r result) hand) (λ full. Idle (view_of D.Source.own T.Source.own H.Hash.own) (state self.old r hands) entry.old entry.new (state self.new r result)) }
+    // Begins, where the place is free for the slip.
+    fn begin_at(&mut self, slips: &mut [Option<Slip>], place: usize, entry: &mut Entry)
+        requires { entry.old.call ≡ Begin place }
+        ensures { (r : Register) → Turn (base D.Source.own T.Source.own D.Device.own T.Device.own H.Hash.own) (state self.old r) slips.old entry.old entry.new slips.new (state self.new r) }
     {
-        let (held, other) = hands.parted(hand);
-        let slip = match held {
-            Some(slip) => {
-                entry.answer = None;
-                Some(slip)
+        if !is_free(slips, place) {
+            entry.answer = None;
+            return;
+        }
+        match self.begin() {
+            Ok(slip) => {
+                lay(slips, place, slip);
+                entry.answer = Some(Ok(()));
             }
-            None => match self.begin() {
-                Ok(slip) => {
-                    entry.answer = Some(Ok(()));
-                    Some(slip)
-                }
-                Err(refusal) => {
-                    entry.answer = Some(Err(refusal));
-                    None
-                }
-            },
-        };
-        Hands::of(hand, slip, other)
+            Err(refusal) => entry.answer = Some(Err(refusal)),
+        }
     }
 
-    // Keeps with the slip in this hand, if there is one.
+    // Keeps with the slip at this place, if there is one. Refused, the slip lies there again.
+    #[tactic(auto, using(crate::proofs::Pools::laid_again))]
     fn keep_with(
         &mut self,
         register: &mut Register,
-        hands: Hands,
-        hand: Hand,
+        slips: &mut [Option<Slip>],
+        place: usize,
         entry: &mut Entry,
-    ) -> Hands
-        ensures { let w = state self.old register.old hands in let w' = state self.new register.new result in with_its_slip (view_of D.Source.own T.Source.own H.Hash.own) w entry.old entry.new w' hand (λ slip. KeepCall (view_of D.Source.own T.Source.own H.Hash.own) w entry.old entry.new w' hand (slip_number slip)) }
+    )
+        requires { entry.old.call ≡ Keep place }
+        ensures { Turn (base D.Source.own T.Source.own D.Device.own T.Device.own H.Hash.own) (state self.old register.old) slips.old entry.old entry.new slips.new (state self.new register.new) }
     {
-        let (held, other) = hands.parted(hand);
-        let Some(slip) = held else {
+        let Some(slip) = take(slips, place) else {
             entry.answer = None;
-            return Hands::of(hand, None, other);
+            return;
         };
-        let slip = spent(self.keep(slip, register), entry);
-        Hands::of(hand, slip, other)
-    }
-
-    // Leaves with the slip in this hand, if there is one.
-    fn leave_with(&mut self, hands: Hands, hand: Hand, entry: &mut Entry) -> Hands
-        ensures { (r : Register) → let w = state self.old r hands in let w' = state self.new r result in with_its_slip (view_of D.Source.own T.Source.own H.Hash.own) w entry.old entry.new w' hand (λ slip. LeaveCall (view_of D.Source.own T.Source.own H.Hash.own) w entry.old entry.new w' hand (slip_number slip)) }
-    {
-        let (held, other) = hands.parted(hand);
-        let Some(slip) = held else {
-            entry.answer = None;
-            return Hands::of(hand, None, other);
-        };
-        let slip = spent(self.leave(slip), entry);
-        Hands::of(hand, slip, other)
-    }
-}
-
-// Enters what keep or leave answered; a slip that it handed back is given on.
-fn spent(answer: Result<(), Unspent>, entry: &mut Entry) -> Option<Slip>
-    ensures answer { entry.new ≡ record entry.old { answer = Some (unspent answer) } }
-    ensures back { result ≡ back answer }
-{
-    match answer {
-        Ok(()) => {
-            entry.answer = Some(Ok(()));
-            None
+        match self.keep(slip, register) {
+            Ok(()) => entry.answer = Some(Ok(())),
+            Err(Unspent { refusal, slip }) => {
+                lay(slips, place, slip);
+                entry.answer = Some(Err(refusal));
+            }
         }
-        Err(Unspent { refusal, slip }) => {
-            entry.answer = Some(Err(refusal));
-            Some(slip)
+    }
+
+    // Leaves with the slip at this place, if there is one. Refused, the slip lies there again.
+    #[tactic(auto, using(crate::proofs::Pools::laid_again))]
+    fn leave_with(&mut self, slips: &mut [Option<Slip>], place: usize, entry: &mut Entry)
+        requires { entry.old.call ≡ Leave place }
+        ensures { (r : Register) → Turn (base D.Source.own T.Source.own D.Device.own T.Device.own H.Hash.own) (state self.old r) slips.old entry.old entry.new slips.new (state self.new r) }
+    {
+        let Some(slip) = take(slips, place) else {
+            entry.answer = None;
+            return;
+        };
+        match self.leave(slip) {
+            Ok(()) => entry.answer = Some(Ok(())),
+            Err(Unspent { refusal, slip }) => {
+                lay(slips, place, slip);
+                entry.answer = Some(Err(refusal));
+            }
         }
     }
 }

@@ -1,6 +1,5 @@
 // The volume, and its calls.
 ghost use Rattle.std.specs.Prelude.{◌≡◌, MatchResult, Ok, Err};
-ghost use Rattle.device.specs.Meaning.{Settled};
 
 use crate::checks::{check_areas, fitting, formattable};
 use crate::format::{write_zero_tree, write_zeros};
@@ -9,7 +8,7 @@ use crate::refusal::{Failed, Refusal, Side};
 use crate::register::Register;
 use crate::slip::{Slip, Unspent};
 use crate::walk::{RECORD, fetch_into, walk_into};
-use crate::write::put_up;
+use crate::write::{plan_for, put, put_up};
 use device::device::Device;
 use digest::hash::Hash;
 use geometry::Geometry;
@@ -26,28 +25,21 @@ pub struct Volume<D, T, H> {
     pub(crate) present: Option<Present>,
 }
 
-// Settles as the law of a device has it.
-fn settle<D: Device>(device: &mut D) -> bool
-    ensures { Settled (D.Source.meaning device.old) result (D.Source.meaning device.new) }
-{
-    device.settle()
-}
-
 impl<D: Device, T: Device, H: Hash> Volume<D, T, H> {
     ghost use Rattle.std.specs.Prelude.{◌<◌, None, Some, length, replicate, IfErr, IfOk};
     ghost use Rattle.tree.specs.Layout.{root_of, tree_of, zero_block};
-    ghost use Rattle.volume.specs.declared.refusal.Refusal.TheVariants.{Closed};
-    ghost use Rattle.volume.specs.Calls.{BeginStep, FormatStep, KeepStep, LeaveStep, OpenStep, Putting, ReadStep, ShutStep, WriteStep, Writing};
+    ghost use Rattle.volume.specs.Calls.{BeginStep, FormatStep, KeepStep, LeaveStep, OpenStep, Putting, ReadStep, Settling, ShutStep, WriteStep, Writing};
     ghost use Rattle.volume.specs.Checks.{begin_check, slip_check};
-    ghost use Rattle.volume.specs.Effects.{Rewritten};
+    ghost use Rattle.volume.specs.Parts.{Holds};
     ghost use Rattle.volume.specs.Promise.{Start};
-    ghost use Rattle.volume.specs.Slips.{slip_number, told, unspent};
-    ghost use Rattle.volume.specs.View.{IsOver, Untouched, opened_as, view_of};
+    ghost use Rattle.volume.specs.Refusals.{done, plain, reason, told};
+    ghost use Rattle.volume.specs.Slips.{slip_number, slip_with, unspent};
+    ghost use Rattle.volume.specs.View.{IsMade, base, open_of, opened_as, view};
+    ghost use Rattle.volume.specs.Writes.{InTurn};
 
     // A closed volume.
     pub fn new(store: D, tree: T, hash: H, number: u32) -> Volume<D, T, H>
-        ensures over { IsOver result store tree hash }
-        ensures view { view_of D.Source.own T.Source.own H.Hash.own result ≡ record { number = number; image = H.Hash.image hash; kind = H.Hash.KIND; present = None; store = D.Source.meaning store; tree = T.Source.meaning tree } }
+        ensures { IsMade result store tree hash number }
     {
         Volume {
             store,
@@ -59,15 +51,14 @@ impl<D: Device, T: Device, H: Hash> Volume<D, T, H> {
     }
 
     fn opened(&self) -> Result<Present, Refusal>
-        ensures { MatchResult result (λ p. self.now.present ≡ Some p) (λ e. (e ≡ Closed) × (self.now.present ≡ None)) }
+        ensures { MatchResult result (λ p. self.now.present ≡ Some p) (λ e. (reason e ≡ plain 40) × (self.now.present ≡ None)) }
     {
         self.present.ok_or(Refusal::Closed)
     }
 
     // Opens the volume with what the register has. Nothing is read.
     pub fn open(&mut self, register: &Register) -> Result<(), Refusal>
-        ensures step { OpenStep (view_of D.Source.own T.Source.own H.Hash.own) self.old register.now result self.new }
-        ensures untouched { Untouched self.old self.new }
+        ensures { OpenStep (base D.Source.own T.Source.own D.Device.own T.Device.own H.Hash.own) self.old register.now (told result) self.new }
     {
         if self.present.is_some() {
             return Err(Refusal::Opened);
@@ -83,7 +74,7 @@ impl<D: Device, T: Device, H: Hash> Volume<D, T, H> {
 
     // The open volume, where no slip is out.
     fn opened_without_slip(&self) -> Result<Present, Refusal>
-        ensures { let check = begin_check (view_of D.Source.own T.Source.own H.Hash.own self.now) in MatchResult result (λ p. (self.now.present ≡ Some p) × (check ≡ Ok (opened_as p))) (λ e. check ≡ Err e) }
+        ensures { let check = begin_check (open_of self.now.present) in MatchResult result (λ p. (self.now.present ≡ Some p) × (check ≡ Ok (opened_as p))) (λ e. check ≡ Err (reason e)) }
     {
         let present = self.opened()?;
         if present.slip_out {
@@ -93,10 +84,10 @@ impl<D: Device, T: Device, H: Hash> Volume<D, T, H> {
         }
     }
 
-    // Gives out a slip.
+    // A slip, which bears the number of this volume.
     pub fn begin(&mut self) -> Result<Slip, Refusal>
-        ensures step { BeginStep (view_of D.Source.own T.Source.own H.Hash.own) self.old (told result) self.new }
-        ensures untouched { Untouched self.old self.new }
+        ensures step { BeginStep (base D.Source.own T.Source.own D.Device.own T.Device.own H.Hash.own) self.old (done (told result)) self.new }
+        ensures slip { IfOk result (λ s. s ≡ slip_with self.old.number) }
     {
         let present = self.opened_without_slip()?;
         self.present = Some(Present {
@@ -108,7 +99,7 @@ impl<D: Device, T: Device, H: Hash> Volume<D, T, H> {
 
     // Reads a block from the root down. The area gets what the root vouches for, else zeros; the log gets what passed.
     pub fn read(&mut self, number: usize, block: &mut [u8], log: &mut [u8]) -> Result<(), Refusal>
-        ensures { ReadStep (view_of D.Source.own T.Source.own H.Hash.own) self.old number block.old log.old result block.new log.new self.new }
+        ensures { ReadStep (base D.Source.own T.Source.own D.Device.own T.Device.own H.Hash.own) self.old number block.old log.old (told result) block.new log.new self.new }
     {
         let Present { geometry, root, .. } = self.opened()?;
         check_areas(geometry.blocks, number, block.len(), log.len())?;
@@ -118,7 +109,7 @@ impl<D: Device, T: Device, H: Hash> Volume<D, T, H> {
 
     // The open volume, where this slip is its own and out.
     fn opened_for(&self, slip: &Slip) -> Result<Present, Refusal>
-        ensures { let check = slip_check (view_of D.Source.own T.Source.own H.Hash.own self.now) (slip_number slip.now) in MatchResult result (λ p. (self.now.present ≡ Some p) × (check ≡ Ok (opened_as p))) (λ e. check ≡ Err e) }
+        ensures { let check = slip_check (open_of self.now.present) self.now.number (slip_number slip.now) in MatchResult result (λ p. (self.now.present ≡ Some p) × (check ≡ Ok (opened_as p))) (λ e. check ≡ Err (reason e)) }
     {
         let present = self.opened()?;
         if present.slip_out && slip.number() == self.number {
@@ -137,15 +128,15 @@ impl<D: Device, T: Device, H: Hash> Volume<D, T, H> {
         block: &[u8],
         log: &mut [u8],
     ) -> Result<(), Refusal>
-        ensures { WriteStep (view_of D.Source.own T.Source.own H.Hash.own) self.old (slip_number slip.now) number block.now log.old result log.new self.new }
+        ensures { WriteStep (base D.Source.own T.Source.own D.Device.own T.Device.own H.Hash.own) self.old (slip_number slip.now) number block.now log.old (told result) log.new self.new }
     {
         let present = self.opened_for(slip)?;
         check_areas(present.geometry.blocks, number, block.len(), log.len())?;
-        self.put(present, number, block, log)
+        self.write_checked(present, number, block, log)
     }
 
     // The write of an open volume.
-    fn put(
+    fn write_checked(
         &mut self,
         present: Present,
         number: usize,
@@ -155,7 +146,7 @@ impl<D: Device, T: Device, H: Hash> Volume<D, T, H> {
         requires is_open { self.old.present ≡ Some present }
         requires inside { number < present.geometry.blocks }
         requires areas { (length block.now ≡ 512) × (length log.old ≡ 2048) }
-        ensures { let view = view_of D.Source.own T.Source.own H.Hash.own in Writing (view self.old) (opened_as present) number block.now result log.new (view self.new) }
+        ensures { Writing (base D.Source.own T.Source.own D.Device.own T.Device.own H.Hash.own) self.old (opened_as present) number block.now (told result) log.new self.new }
     {
         walk_into(
             &mut self.tree,
@@ -179,7 +170,7 @@ impl<D: Device, T: Device, H: Hash> Volume<D, T, H> {
         requires is_open { self.old.present ≡ Some present }
         requires inside { number < present.geometry.blocks }
         requires areas { (length block.now ≡ 512) × (length log.now ≡ 2048) }
-        ensures { let view = view_of D.Source.own T.Source.own H.Hash.own in Putting (view self.old) (opened_as present) number block.now result log.now (view self.new) }
+        ensures { Putting (base D.Source.own T.Source.own D.Device.own T.Device.own H.Hash.own) self.old (opened_as present) number block.now self.old.tree (told result) log.now self.new }
     {
         let (Some(block), Some(log)) = (block.as_array(), log.as_array()) else {
             unreachable!()
@@ -197,53 +188,57 @@ impl<D: Device, T: Device, H: Hash> Volume<D, T, H> {
     ) -> Result<(), Refusal>
         requires is_open { self.old.present ≡ Some present }
         requires inside { number < present.geometry.blocks }
-        ensures { let view = view_of D.Source.own T.Source.own H.Hash.own in Putting (view self.old) (opened_as present) number block.now result log.now (view self.new) }
+        ensures { Putting (base D.Source.own T.Source.own D.Device.own T.Device.own H.Hash.own) self.old (opened_as present) number block.now self.old.tree (told result) log.now self.new }
     {
+        let plan = plan_for(&self.hash, present.geometry, number, block, log);
         let mut failed = None;
-        if let Err(fault) = self.store.write(number, block) {
-            failed = Some(Failed {
-                side: Side::Data,
-                level: 0,
-                block: number,
-                fault: Some(fault),
-            });
-        }
-        let root = put_up(
-            &mut self.tree,
-            &self.hash,
-            present.geometry,
-            number,
-            block,
-            log,
-            &mut failed,
-        );
-        self.present = Some(Present { root, ..present });
+        put(&mut self.store, Side::Data, 0, number, block, &mut failed);
+        put_up(&mut self.tree, present.geometry, number, &plan, &mut failed);
+        self.present = Some(Present {
+            root: plan.root,
+            ..present
+        });
         match failed {
             Some(failed) => Err(Refusal::Unwritten(failed)),
             None => Ok(()),
         }
     }
 
+    // Settles both devices, once each. True where nothing is held back any more.
+    fn settle(&mut self) -> bool
+        ensures settled { Settling D.Device.own T.Device.own self.old.store self.old.tree result self.new.store self.new.tree }
+        ensures others { self.new ≡ record self.old { store = self.new.store; tree = self.new.tree } }
+    {
+        let store_is_clear = self.store.settle();
+        let tree_is_clear = self.tree.settle();
+        store_is_clear && tree_is_clear
+    }
+
+    // Enters into the register what a volume under this hash is.
+    fn enter(register: &mut Register, geometry: Geometry, root: [u8; 32])
+        ensures { Holds register.new geometry.blocks H.Hash.KIND root }
+    {
+        *register = Register {
+            blocks: geometry.blocks,
+            kind: H::KIND,
+            root,
+        };
+    }
+
     // Settles both devices. Where nothing is held back then, the register gets the present root, and the slip is taken.
     pub fn keep(&mut self, slip: Slip, register: &mut Register) -> Result<(), Unspent>
-        ensures step { KeepStep (view_of D.Source.own T.Source.own H.Hash.own) self.old (slip_number slip) register.old (unspent result) self.new register.new }
+        ensures step { KeepStep (base D.Source.own T.Source.own D.Device.own T.Device.own H.Hash.own) self.old (slip_number slip) register.old (unspent result) self.new register.new }
         ensures back { IfErr result (λ u. u.slip ≡ slip) }
     {
         let present = match self.opened_for(&slip) {
             Ok(present) => present,
             Err(refusal) => return Err(Unspent { refusal, slip }),
         };
-        let clear_store = settle(&mut self.store);
-        let clear_tree = settle(&mut self.tree);
-        if !(clear_store && clear_tree) {
+        if !self.settle() {
             let refusal = Refusal::NotClear;
             return Err(Unspent { refusal, slip });
         }
-        *register = Register {
-            blocks: present.geometry.blocks,
-            kind: H::KIND,
-            root: present.root,
-        };
+        Self::enter(register, present.geometry, present.root);
         self.present = Some(Present {
             slip_out: false,
             ..present
@@ -254,8 +249,7 @@ impl<D: Device, T: Device, H: Hash> Volume<D, T, H> {
 
     // Takes the slip and closes the volume. What was written since the last keep is given up, and the register stays.
     pub fn leave(&mut self, slip: Slip) -> Result<(), Unspent>
-        ensures step { LeaveStep (view_of D.Source.own T.Source.own H.Hash.own) self.old (slip_number slip) (unspent result) self.new }
-        ensures untouched { Untouched self.old self.new }
+        ensures step { LeaveStep (base D.Source.own T.Source.own D.Device.own T.Device.own H.Hash.own) self.old (slip_number slip) (unspent result) self.new }
         ensures back { IfErr result (λ u. u.slip ≡ slip) }
     {
         if let Err(refusal) = self.opened_for(&slip) {
@@ -269,39 +263,33 @@ impl<D: Device, T: Device, H: Hash> Volume<D, T, H> {
     // Fills both devices with zero blocks and the tree over them, and settles them. Where nothing is held back then, the register gets
     // the root, and a story may start.
     pub fn format(&mut self, register: &mut Register) -> Result<(), Refusal>
-        ensures step { FormatStep (view_of D.Source.own T.Source.own H.Hash.own) self.old register.old result self.new register.new }
-        ensures start { IfOk result (λ _. let view = view_of D.Source.own T.Source.own H.Hash.own in Start (view self.new) register.new (replicate (view self.old).store.blocks zero_block)) }
+        ensures step { FormatStep (base D.Source.own T.Source.own D.Device.own T.Device.own H.Hash.own) self.old register.old (told result) self.new register.new }
+        ensures start { IfOk result (λ _. let view = view (base D.Source.own T.Source.own D.Device.own T.Device.own H.Hash.own) in Start (view self.new) register.new (replicate (view self.old).store.blocks zero_block)) }
     {
         self.format_devices(register)
     }
 
     fn format_devices(&mut self, register: &mut Register) -> Result<(), Refusal>
-        ensures { FormatStep (view_of D.Source.own T.Source.own H.Hash.own) self.old register.old result self.new register.new }
+        ensures { FormatStep (base D.Source.own T.Source.own D.Device.own T.Device.own H.Hash.own) self.old register.old (told result) self.new register.new }
     {
         if self.present.is_some() {
             return Err(Refusal::Opened);
         }
         let geometry = formattable(self.store.blocks(), self.tree.blocks())?;
         let root = self.write_all(geometry);
-        let store_is_clear = settle(&mut self.store);
-        let tree_is_clear = settle(&mut self.tree);
-        if !(store_is_clear && tree_is_clear) {
+        if !self.settle() {
             return Err(Refusal::NotClear);
         }
-        *register = Register {
-            blocks: geometry.blocks,
-            kind: H::KIND,
-            root,
-        };
+        Self::enter(register, geometry, root);
         Ok(())
     }
 
     // Writes zeros to every data block, and the tree over them. The answer is its root.
     fn write_all(&mut self, geometry: Geometry) -> [u8; 32]
-        ensures store { Rewritten (D.Source.meaning self.old.store) (replicate geometry.blocks zero_block) (D.Source.meaning self.new.store) }
-        ensures tree { Rewritten (T.Source.meaning self.old.tree) (tree_of (H.Hash.image self.old.hash) (replicate geometry.blocks zero_block)) (T.Source.meaning self.new.tree) }
+        ensures store { InTurn D.Device.own 0 (replicate geometry.blocks zero_block) self.old.store self.new.store }
+        ensures tree { InTurn T.Device.own 0 (tree_of (H.Hash.image self.old.hash) (replicate geometry.blocks zero_block)) self.old.tree self.new.tree }
         ensures root { result ≡ root_of (H.Hash.image self.old.hash) (replicate geometry.blocks zero_block) }
-        ensures others { (self.new.hash ≡ self.old.hash) × (self.new.number ≡ self.old.number) × (self.new.present ≡ self.old.present) }
+        ensures others { self.new ≡ record self.old { store = self.new.store; tree = self.new.tree } }
     {
         write_zeros(&mut self.store, geometry.blocks);
         write_zero_tree(&mut self.tree, &self.hash, geometry)
@@ -309,8 +297,7 @@ impl<D: Device, T: Device, H: Hash> Volume<D, T, H> {
 
     // Closes the volume.
     pub fn shut(&mut self) -> Result<(), Refusal>
-        ensures step { ShutStep (view_of D.Source.own T.Source.own H.Hash.own) self.old result self.new }
-        ensures untouched { Untouched self.old self.new }
+        ensures { ShutStep (base D.Source.own T.Source.own D.Device.own T.Device.own H.Hash.own) self.old (told result) self.new }
     {
         self.opened_without_slip()?;
         self.present = None;

@@ -1,12 +1,12 @@
 // The walk from the root down to a data block, over any two sources.
-ghost use Rattle.std.specs.Prelude.{◌≡◌, ◌≤◌, ◌<◌, IsErr, length};
-ghost use Rattle.device.specs.Meaning.{CanRead, came};
+ghost use Rattle.std.specs.Prelude.{◌≡◌, ◌≤◌, ◌<◌, IsErr, None, length};
 ghost use Rattle.device.specs.Zeros.{zeros};
 ghost use Rattle.device.specs.Memory.{with_part};
 ghost use Rattle.geometry.specs.Geometry.{levels, place};
 ghost use Rattle.tree.specs.Paths.{cell_at};
 ghost use Rattle.volume.specs.Record.{blank};
-ghost use Rattle.volume.specs.Walk.{Trial, outcome_of, Descended, Walked, Fetched, FetchedBlock};
+ghost use Rattle.volume.specs.Refusals.{told};
+ghost use Rattle.volume.specs.Walk.{Search, outcome_of, Descended, Walked, Fetched, FetchedBlock};
 
 use crate::refusal::{Failed, Refusal, Side};
 use crate::zero::ZERO_BLOCK;
@@ -18,22 +18,9 @@ use geometry::Geometry;
 // The length of a record area: the data block, and a tree block of each of the three levels that there may be.
 pub(crate) const RECORD: usize = 2048;
 
-// Reads as the law of a source has it.
-fn ask<S: Source>(
-    source: &mut S,
-    way: usize,
-    number: usize,
-    area: &mut [u8; 512],
-) -> Result<(), Fault>
-    ensures stands { S.meaning source.new ≡ S.meaning source.old }
-    ensures answer { CanRead (S.meaning source.old) way number (came result area.new) }
-{
-    source.read(way, number, area)
-}
-
 // Looks for a block with the expected image in all ways, from 0 on. Where none passes, the area is left zero, and the answer is why
 // the last way did not.
-#[tactic(auto, unfolding(device::specs::Zeros::zeros), using(crate::proofs::Trials::none_of_none, crate::proofs::Trials::none_of_more))]
+#[tactic(auto, unfolding(device::specs::Zeros::zeros))]
 pub(crate) fn pass<S: Source, H: Hash>(
     source: &mut S,
     hash: &H,
@@ -41,13 +28,12 @@ pub(crate) fn pass<S: Source, H: Hash>(
     expected: &[u8; 32],
     area: &mut [u8; 512],
 ) -> Result<(), Option<Fault>>
-    ensures meaning { S.meaning source.new ≡ S.meaning source.old }
-    ensures trial { Trial (H.Hash.image hash.now) (S.meaning source.old) number expected.now (outcome_of result area.new) }
+    ensures search { Search S.Source.own (H.Hash.image hash.now) number expected.now (S.meaning source.old).ways 0 None source.old (outcome_of result area.new) source.new }
     ensures blank { IsErr result → area.new ≡ zeros }
 {
     let mut last = None;
     for way in 0..source.ways() {
-        match ask(source, way, number, area) {
+        match source.read(way, number, area) {
             Ok(()) if hash.image_of(area) == *expected => return Ok(()),
             Ok(()) => last = None,
             Err(fault) => last = Some(fault),
@@ -88,8 +74,7 @@ fn descend<S: Source, H: Hash>(
     log: &mut [u8; RECORD],
 ) -> Result<(), Refusal>
     requires { (level < 3) × (place.1 < 16) }
-    ensures meaning { S.meaning tree.new ≡ S.meaning tree.old }
-    ensures descended { Descended (H.Hash.image hash.now) (S.meaning tree.old) level place.0 place.1 expected.old log.old result expected.new log.new }
+    ensures { Descended S.Source.own (H.Hash.image hash.now) level place.0 place.1 expected.old log.old tree.old (told result) expected.new log.new tree.new }
 {
     let (block, cell) = place;
     let mut bytes = [0; 512];
@@ -128,8 +113,7 @@ pub(crate) fn walk<S: Source, H: Hash>(
     log: &mut [u8; RECORD],
 ) -> Result<[u8; 32], Refusal>
     requires { number < geometry.blocks }
-    ensures meaning { S.meaning tree.new ≡ S.meaning tree.old }
-    ensures walked { Walked (H.Hash.image hash.now) (S.meaning tree.old) geometry.blocks number (levels geometry.blocks) root.now log.old result log.new }
+    ensures { Walked S.Source.own (H.Hash.image hash.now) geometry.blocks number (levels geometry.blocks) root.now log.old tree.old (told result) log.new tree.new }
 {
     let mut expected = *root;
     for level in (0..geometry.levels()).rev() {
@@ -148,8 +132,7 @@ fn fetch_block<S: Source, H: Hash>(
     block: &mut [u8; 512],
     log: &mut [u8; RECORD],
 ) -> Result<(), Refusal>
-    ensures meaning { S.meaning store.new ≡ S.meaning store.old }
-    ensures fetched { FetchedBlock (H.Hash.image hash.now) (S.meaning store.old) number expected.now log.old result block.new log.new }
+    ensures { FetchedBlock S.Source.own (H.Hash.image hash.now) number expected.now log.old store.old (told result) block.new log.new store.new }
 {
     pass(store, hash, number, expected, block).map_err(|fault| {
         Refusal::DataBlock(Failed {
@@ -177,9 +160,7 @@ pub(crate) fn fetch<S: Source, U: Source, H: Hash>(
     log: &mut [u8; RECORD],
 ) -> Result<(), Refusal>
     requires { number < geometry.blocks }
-    ensures store { S.meaning store.new ≡ S.meaning store.old }
-    ensures tree { U.meaning tree.new ≡ U.meaning tree.old }
-    ensures fetched { Fetched (H.Hash.image hash.now) (S.meaning store.old) (U.meaning tree.old) geometry.blocks number root.now result block.new log.new }
+    ensures { Fetched S.Source.own U.Source.own (H.Hash.image hash.now) geometry.blocks number root.now store.old tree.old (told result) block.new log.new store.new tree.new }
 {
     *block = ZERO_BLOCK;
     *log = [0; RECORD];
@@ -200,9 +181,7 @@ pub(crate) fn fetch_into<S: Source, U: Source, H: Hash>(
 ) -> Result<(), Refusal>
     requires inside { number < geometry.blocks }
     requires areas { (length block.old ≡ 512) × (length log.old ≡ 2048) }
-    ensures store { S.meaning store.new ≡ S.meaning store.old }
-    ensures tree { U.meaning tree.new ≡ U.meaning tree.old }
-    ensures fetched { Fetched (H.Hash.image hash.now) (S.meaning store.old) (U.meaning tree.old) geometry.blocks number root.now result block.new log.new }
+    ensures { Fetched S.Source.own U.Source.own (H.Hash.image hash.now) geometry.blocks number root.now store.old tree.old (told result) block.new log.new store.new tree.new }
 {
     let (Some(block), Some(log)) = (block.as_mut_array(), log.as_mut_array()) else {
         unreachable!()
@@ -222,8 +201,7 @@ pub(crate) fn walk_into<S: Source, H: Hash>(
 ) -> Result<[u8; 32], Refusal>
     requires inside { number < geometry.blocks }
     requires area { length log.old ≡ 2048 }
-    ensures meaning { S.meaning tree.new ≡ S.meaning tree.old }
-    ensures walked { Walked (H.Hash.image hash.now) (S.meaning tree.old) geometry.blocks number (levels geometry.blocks) root.now blank result log.new }
+    ensures walked { Walked S.Source.own (H.Hash.image hash.now) geometry.blocks number (levels geometry.blocks) root.now blank tree.old (told result) log.new tree.new }
     ensures area { length log.new ≡ 2048 }
 {
     let Some(log) = log.as_mut_array() else {

@@ -1,8 +1,6 @@
-use Rattle.std.proofs.Common.{◌≡◌}
-use Rattle.volume.specs.Walk.{NoneOf}
+use Rattle.volume.proofs.Searches.{SoFar}
 use Rattle.volume.proofs.walk.pass.Given as goal
 
--- none of the ways so far passes, and the source means what it meant
+-- what the ways that are left come to, all of them come to
 abbrev pub invariant-loop-way : goal.invariant-loop-way
-invariant-loop-way g l =
-    NoneOf (g.H.Hash.image l.hash) (g.S.Source.meaning l.initial.source) l.number l.expected l.way l.last × (g.S.Source.meaning l.source ≡ g.S.Source.meaning l.initial.source)
+invariant-loop-way g l = SoFar g.S.Source (g.H.Hash.image l.hash) l.number l.expected l.way-end l.initial.source l.way l.last l.source

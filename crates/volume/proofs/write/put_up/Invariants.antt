@@ -1,10 +1,9 @@
-use Rattle.std.proofs.Common.{◌≡◌}
-use Rattle.tree.specs.Paths.{risen}
-use Rattle.volume.specs.Writes.{PutUp, passed_at}
+use Rattle.std.proofs.Common.{ℕ, List}
+use Rattle.volume.specs.Refusals.{stuck_in}
+use Rattle.volume.specs.Writes.{IsPlan, PutUp}
 use Rattle.volume.proofs.write.put_up.Given as goal
 
 abbrev pub invariant-loop-level : goal.invariant-loop-level
 invariant-loop-level g l =
-    let hashed = g.H.Hash.image l.hash in
-    (l.image ≡ risen hashed l.geometry.blocks l.number (passed_at l.log) l.block l.level)
-    × PutUp hashed l.geometry.blocks l.number l.log l.block l.initial.failed (g.T.Source.meaning l.initial.tree) l.level l.failed (g.T.Source.meaning l.tree)
+    (image : List ℕ → List ℕ) (log block : List ℕ) → IsPlan image l.geometry.blocks l.number log block l.plan.tree_blocks l.plan.root
+    → PutUp g.T.Device image l.geometry.blocks l.number log block (stuck_in l.initial.failed) l.initial.tree l.level (stuck_in l.failed) l.tree
