@@ -34,7 +34,7 @@ impl Images {
         let contents = load(heap, sheet)?;
         let Tree { blocks, root } = Tree::over(heap, hash, &contents)?;
         let kind = H::KIND;
-        let report = Report::over(heap, sheet, &contents, Label { kind, root })?;
+        let report = Report::over(heap, sheet, &contents.blocks, Label { kind, root })?;
         Ok(Images {
             report: report.into_text(),
             volume: contents.blocks,

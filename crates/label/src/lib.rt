@@ -1,12 +1,11 @@
 // From the text of a tray's sheet to the report with its label, and to the images of its two cards.
 #![tactic(auto)]
 
-ghost use Rattle.std.specs.Prelude.{◌≡◌, IfOk, string_bytes};
-ghost use Rattle.label.specs.Label.{Labelled, Imaged};
-ghost use Rattle.label.specs.Report.{report_with};
+ghost use Rattle.std.specs.Prelude.{◌≡◌, IfOk, length, string_bytes};
+ghost use Rattle.label.specs.Label.{Labelled, Imaged, sheet_volume};
+ghost use Rattle.label.specs.Report.{ReportFrom, report_with};
 
 use crate::cards::Images;
-use crate::load::load;
 use crate::report::{Label, Report};
 use digest::sha256::SaltedSha256;
 use digest::siphash::SipHash;
@@ -39,16 +38,18 @@ pub fn images(heap: Global, text: &[u8]) -> Result<Images, SheetError>
     Ok(images)
 }
 
-// The same report for a sheet that is read, under a kind and a root that are known, as from a volume's register.
-pub fn report_with(
+// The same report from a volume's blocks, as they came back from it, and the kind and root of its register: the SIMs are told as these
+// blocks say them, whatever the sheet says.
+pub fn report_from(
     heap: Global,
     sheet: &Sheet,
+    blocks: &[[u8; 512]],
     kind: u8,
     root: [u8; 32],
 ) -> Result<String, AllocError>
-    ensures { IfOk result (λ s. string_bytes s ≡ report_with sheet.now.tray.value sheet.now.blocks.value sheet.now.sims.items kind root) }
+    ensures from_blocks { let s = sheet.now in IfOk result (λ t. ReportFrom s.tray.value s.blocks.value (length s.sims.items) blocks.now kind root (string_bytes t)) }
+    ensures of_sheet { let s = sheet.now in blocks.now ≡ sheet_volume s → IfOk result (λ t. string_bytes t ≡ report_with s.tray.value s.blocks.value s.sims.items kind root) }
 {
-    let contents = load(heap, sheet)?;
-    let report = Report::over(heap, sheet, &contents, Label { kind, root })?;
+    let report = Report::over(heap, sheet, blocks, Label { kind, root })?;
     Ok(report.into_text())
 }

@@ -1,10 +1,9 @@
 // The report of a label: a head line, a line for each SIM, a line on the tree, and the line of the label itself. What adds a line
 // fails only where memory runs out.
-ghost use Rattle.std.specs.Prelude.{◌≡◌, List, [], ◌++◌, map, length, IfOk, OnOk, string_bytes};
+ghost use Rattle.std.specs.Prelude.{◌≡◌, [], ◌++◌, length, IfOk, OnOk, string_bytes};
 ghost use Rattle.geometry.specs.Geometry.{levels, total};
-ghost use Rattle.label.specs.Label.{volume_of};
-ghost use Rattle.label.specs.Report.{head_line, sim_line, sim_lines, tree_line, hex, label_line, report_with};
-ghost use Rattle.sim.specs.Block.{sim_block};
+ghost use Rattle.label.specs.Label.{sheet_volume};
+ghost use Rattle.label.specs.Report.{AddsLines, ReportFrom, head_line, sim_line, tree_line, hex, label_line, report_with};
 
 use geometry::Geometry;
 use sim::Sim;
@@ -12,7 +11,6 @@ use sim::block::decode;
 use std::alloc::{AllocError, Global};
 use std::marker::Model;
 use subscriber::sheet::Sheet;
-use tree::contents::Contents;
 
 // What names the contents of a tray: the kind of the hash, and the root of the tree under it.
 #[derive(Clone, Copy)]
@@ -44,20 +42,23 @@ impl Model for Report {
 }
 
 impl Report {
-    // The whole report of a tray. The SIMs are read again from the blocks that the tree lies over.
+    // The whole report of a tray. Its SIMs are read again from the blocks of its volume.
     pub(crate) fn over(
         heap: Global,
         sheet: &Sheet,
-        contents: &Contents,
+        blocks: &[[u8; 512]],
         label: Label,
     ) -> Result<Report, AllocError>
-        requires { contents.now.blocks.items ≡ volume_of sheet.now.sims.items sheet.now.blocks.value }
-        ensures { IfOk result (λ r. r ≡ report_with sheet.now.tray.value sheet.now.blocks.value sheet.now.sims.items label.kind label.root) }
+        ensures from_blocks { let s = sheet.now in IfOk result (λ r. ReportFrom s.tray.value s.blocks.value (length s.sims.items) blocks.now label.kind label.root r) }
+        ensures of_sheet { let s = sheet.now in blocks.now ≡ sheet_volume s → IfOk result (λ r. r ≡ report_with s.tray.value s.blocks.value s.sims.items label.kind label.root) }
     {
+        let geometry = Geometry {
+            blocks: usize::from(sheet.blocks.value),
+        };
         let mut report = Report::new(heap);
         report.head(sheet)?;
-        report.sims(&contents.blocks[..sheet.sims.len()])?;
-        report.tree(contents.geometry())?;
+        report.sims(blocks.get(..sheet.sims.len()).unwrap_or(blocks))?;
+        report.tree(geometry)?;
         report.label(heap, label)?;
         Ok(report)
     }
@@ -81,7 +82,7 @@ impl Report {
 
     // A line for each block that holds a SIM, read from the block itself.
     fn sims(&mut self, blocks: &[[u8; 512]]) -> Result<(), AllocError>
-        ensures { OnOk result ((sims : List Sim) → map sim_block sims ≡ blocks.now → self.new ≡ self.old ++ sim_lines 0 sims) }
+        ensures { OnOk result (AddsLines blocks.now self.old self.new) }
     {
         for (k, block) in blocks.iter().enumerate() {
             if let Some(sim) = decode(block) {

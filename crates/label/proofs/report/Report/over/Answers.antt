@@ -1,13 +1,16 @@
-use Rattle.std.proofs.Common.{◌≡◌, map, take, vec_items, arith}
+use Rattle.std.proofs.Common.{◌≡◌, length, take, vec_items, ap, ◌∙◌, arith}
 use Rattle.std.proofs.lemmas.Grind.{common_steps}
-use Rattle.sim.specs.Block.{sim_block}
-use Rattle.label.specs.Report.{report_with}
+use Rattle.label.proofs.SimLines.{at_front, of_volume, whole}
 use Rattle.label.proofs.report.Report.over.Goals as goal
 
-pub returns : goal.returns
-unfolding report_with
-returns c =
-    let sims = vec_items c.args.sheet.now.sims in
-    let held : map sim_block sims ≡ take c.len.result c.deref.result.now = grind (arith, common_steps) in
-    let count : c.geometry.result.blocks ≡ c.args.sheet.now.blocks.value = grind (arith, common_steps) in
-    grind (arith, common_steps, count, c.in_ok-sims.ensures sims held)
+pub returns-clause-from_blocks : goal.returns-clause-from_blocks
+returns-clause-from_blocks c =
+    let blocks = c.args.blocks in
+    let sims : c.len.result ≡ length (vec_items c.args.sheet.now.sims) = grind (arith, common_steps) in
+    let part : c.unwrap_or.result.now ≡ take (length (vec_items c.args.sheet.now.sims)) blocks.now =
+    ap (λ s. s.now) c.unwrap_or.ensures ∙ at_front blocks c.get.result c.len.result c.get.ensures.lookup ∙ ap (λ n. take n blocks.now) sims
+    in
+    whole _ _ _ _ _ _ _ _ _ _ _ _ c.from.result part c.from.ensures c.new-report.ensures c.in_ok-head.ensures c.in_ok-sims.ensures c.in_ok-tree.ensures c.in_ok-label.ensures
+
+pub returns-clause-of_sheet : goal.returns-clause-of_sheet
+returns-clause-of_sheet c = of_volume _ _ _ _ _ _ _ (returns-clause-from_blocks c)
