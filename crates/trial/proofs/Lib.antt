@@ -1,1 +1,11 @@
-pub mod Hands
+pub mod Accepted
+pub mod GoodCards
+pub mod Led
+pub mod Listed
+pub mod Lists
+pub mod Loads
+pub mod PutIn
+pub mod Runs
+pub mod Slips
+pub mod Tallies
+pub mod Through

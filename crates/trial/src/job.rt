@@ -1,13 +1,13 @@
-// What a trial puts on its cards.
+// What a drill puts on its cards.
 use std::alloc::Global;
-use subscriber::sheet::Sheet;
 use tree::contents::Contents;
 
-// A sheet, the blocks that it asks for, and the hash of its tray.
+// A tray's number, its hash, the blocks of its SIMs, and all blocks of its volume.
 #[derive(Drop)]
 pub(crate) struct Job<'a, H> {
     pub(crate) heap: Global,
-    pub(crate) sheet: &'a Sheet,
-    pub(crate) contents: &'a Contents,
+    pub(crate) number: u32,
     pub(crate) hash: H,
+    pub(crate) sims: &'a [[u8; 512]],
+    pub(crate) contents: &'a Contents,
 }

@@ -1,7 +1,8 @@
 // A tray on its way from goods-in to dispatch, on a box in memory: with good cards, and with cards that go bad.
 #![tactic(auto)]
 
-ghost use Rattle.trial.specs.Trial.{Drilled, Loaded};
+ghost use Rattle.trial.specs.Drill.{Drilled};
+ghost use Rattle.trial.specs.Trial.{Loaded};
 
 use crate::drilling::drill_under;
 use crate::failure::Failure;
@@ -9,6 +10,7 @@ use crate::loading::load_under;
 use digest::sha256::SaltedSha256;
 use digest::siphash::SipHash;
 use std::alloc::Global;
+use subscriber::cause::SheetError;
 use subscriber::read::read_sheet;
 use subscriber::tray::HashChoice;
 
@@ -23,7 +25,7 @@ mod stages;
 pub mod stuck;
 
 // What `simbox load` prints for a sheet, or why it prints nothing.
-pub fn load(heap: Global, text: &[u8]) -> Result<String, Failure>
+pub fn load(heap: Global, text: &[u8]) -> Result<String, SheetError>
     ensures { Loaded text.now result }
 {
     let sheet = read_sheet(heap, text)?;

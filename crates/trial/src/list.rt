@@ -1,16 +1,20 @@
-// The two lists of calls that a trial plays, and a look at what they answered.
-use crate::job::Job;
-use crate::stuck::Stuck;
+// The two lists of calls of a trial, and the blocks that came back.
+ghost use Rattle.std.specs.Prelude.{◌≡◌, map, IfOk};
+ghost use Rattle.trial.specs.Lists.{AreasWhole, asked, bare, blocks_read, read_list, write_list};
+
 use std::alloc::{AllocError, Global};
-use volume::entry::{Call, Entry, Hand};
+use volume::entry::{Call, Entry};
 
 // The bytes of a record area.
 const RECORD: usize = 2048;
 
-const HAND: Hand = Hand::Left;
+// The place of the slip: a trial holds one at a time.
+const PLACE: usize = 0;
 
 // A call that takes no areas.
-fn bare(heap: Global, call: Call) -> Entry {
+fn bare(heap: Global, call: Call) -> Entry
+    ensures { asked result ≡ bare call }
+{
     Entry {
         call,
         block: Vec::new(heap),
@@ -20,58 +24,60 @@ fn bare(heap: Global, call: Call) -> Entry {
 }
 
 // A call with a record area, and this in its block area.
-fn with_block(heap: Global, call: Call, block: &[u8; 512]) -> Result<Entry, AllocError> {
-    let mut area = vec![in heap; 0u8; 512]?;
-    area.copy_from_slice(block);
+fn with_block(heap: Global, call: Call, block: &[u8; 512]) -> Result<Entry, AllocError>
+    ensures { IfOk result (λ e. asked e ≡ (call, block.now, 2048)) }
+{
     Ok(Entry {
         call,
-        block: area,
+        block: block.to_vec(heap)?,
         log: vec![in heap; 0u8; RECORD]?,
         answer: None,
     })
 }
 
-// Each SIM's block is written, and all of them are kept.
-pub(crate) fn writes<H>(job: &Job<H>) -> Result<Vec<Entry>, AllocError> {
-    let heap = job.heap;
+// Each of these blocks is written, from block 0 on, and all of them are kept.
+pub(crate) fn writes(heap: Global, blocks: &[[u8; 512]]) -> Result<Vec<Entry>, AllocError>
+    ensures { IfOk result (λ v. map asked v.items ≡ write_list blocks.now) }
+{
     let mut list = Vec::new(heap);
     list.push(bare(heap, Call::Open))?;
-    list.push(bare(heap, Call::Begin { hand: HAND }))?;
-    let sims = job.sheet.sims.len();
-    for (number, block) in job.contents.blocks.iter().take(sims).enumerate() {
-        let call = Call::Write { hand: HAND, number };
+    list.push(bare(heap, Call::Begin { place: PLACE }))?;
+    for (number, block) in blocks.iter().enumerate() {
+        let call = Call::Write {
+            place: PLACE,
+            number,
+        };
         list.push(with_block(heap, call, block)?)?;
     }
-    list.push(bare(heap, Call::Keep { hand: HAND }))?;
+    list.push(bare(heap, Call::Keep { place: PLACE }))?;
     list.push(bare(heap, Call::Shut))?;
     Ok(list)
 }
 
-// Every block is read.
-pub(crate) fn reads<H>(job: &Job<H>) -> Result<Vec<Entry>, AllocError> {
-    let heap = job.heap;
+// So many blocks are read, from block 0 on.
+pub(crate) fn reads(heap: Global, blocks: usize) -> Result<Vec<Entry>, AllocError>
+    ensures { IfOk result (λ v. map asked v.items ≡ read_list blocks) }
+{
     let mut list = Vec::new(heap);
     list.push(bare(heap, Call::Open))?;
-    for number in 0..job.contents.blocks.len() {
+    for number in 0..blocks {
         list.push(with_block(heap, Call::Read { number }, &[0; 512])?)?;
     }
     list.push(bare(heap, Call::Shut))?;
     Ok(list)
 }
 
-// A call that was made and accepted, or else why the trial is broken off.
-pub(crate) fn accepted(entry: &Entry) -> Result<(), Stuck> {
-    let call = entry.call;
-    match entry.answer {
-        Some(Ok(())) => Ok(()),
-        Some(Err(refusal)) => Err(Stuck::Refused { call, refusal }),
-        None => Err(Stuck::NotMade(call)),
-    }
-}
-
-pub(crate) fn all_accepted(list: &[Entry]) -> Result<(), Stuck> {
+// The blocks that the reads of a list left in their areas.
+pub(crate) fn blocks_back(heap: Global, list: &[Entry]) -> Result<Vec<[u8; 512]>, AllocError>
+    ensures { IfOk result (λ v. AreasWhole list.now → v.items ≡ blocks_read list.now) }
+{
+    let mut blocks = Vec::new(heap);
     for entry in list {
-        accepted(entry)?;
+        if let Call::Read { number: _ } = entry.call {
+            if let Some(block) = entry.block.as_slice().as_array::<512>() {
+                blocks.push(*block)?;
+            }
+        }
     }
-    Ok(())
+    Ok(blocks)
 }

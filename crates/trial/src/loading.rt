@@ -1,45 +1,99 @@
 // A tray on good cards, to the label that dispatch prints.
-ghost use Rattle.std.specs.Prelude.{◌≡◌, ◌++◌, IfOk, OnOk, string_bytes, vec_len};
+ghost use Rattle.std.specs.Prelude.{◌≡◌, ◌≤◌, ◌++◌, IfOk, OnOk, length, string_bytes, vec_len};
+ghost use Rattle.device.specs.Piles.{cache, mirror, one, other, pile_device, pile_source};
 ghost use Rattle.geometry.specs.Geometry.{total};
 ghost use Rattle.label.specs.Label.{sheet_volume};
+ghost use Rattle.label.specs.Report.{report_with};
 ghost use Rattle.tree.specs.Layout.{root_of};
-ghost use Rattle.trial.specs.Trial.{format_line, load_text, read_lines, write_lines};
+ghost use Rattle.trial.specs.Cards.{AreBlank};
+ghost use Rattle.trial.specs.Good.{GoodCard, GoodVolume, TakenThrough};
+ghost use Rattle.trial.specs.Trial.{LoadedUnder, Prints, box_device, box_source, format_line, read_lines, stage_lines, write_lines};
+ghost use Rattle.volume.specs.View.{base, view};
 
-use crate::cards::Cards;
-use crate::job::Job;
-use crate::stages::{format, read, volume_over, write};
-use crate::stuck::Stuck;
+use crate::cards::{Cards, Regions};
+use crate::list::{blocks_back, reads, writes};
+use crate::stages::play;
 use device::device::Device;
-use device::memory::Memory;
+use device::piles::cached_mirror;
 use digest::hash::Hash;
 use geometry::Geometry;
 use label::load::load;
-use label::report_with;
+use label::report_from;
 use std::alloc::{AllocError, Global};
 use subscriber::sheet::Sheet;
-use tree::layout::Tree;
 use volume::register::Register;
+use volume::volume::Volume;
 
-// All stages on one volume. The regions are of any type, since the check does not cover a type argument that has both a cache and a
-// `Memory` in it.
-fn load_on<A: Device + Drop, B: Device + Drop, C: Device + Drop, E: Device + Drop, H: Hash + Copy>(
-    job: &Job<H>,
-    data: (A, B),
-    tree: (C, E),
-) -> Result<Register, Stuck> {
-    let mut volume = volume_over(job, data, tree);
-    let mut register = format(&mut volume)?;
-    write(job, &mut volume, &mut register)?;
-    read(job, &mut volume, &mut register)?.all_right()?;
-    Ok(register)
+// What comes back from a volume: its blocks, and the register as it was kept.
+#[derive(Drop)]
+pub(crate) struct Back {
+    pub(crate) blocks: Vec<[u8; 512]>,
+    pub(crate) register: Register,
 }
 
-fn load_cards<H: Hash + Copy>(job: &Job<H>, cards: &mut Cards) -> Result<Register, Stuck> {
-    let data_1 = Memory::new(cards.data_1.as_flattened_mut());
-    let data_2 = Memory::new(cards.data_2.as_flattened_mut());
-    let tree_1 = Memory::new(cards.tree_1.as_flattened_mut());
-    let tree_2 = Memory::new(cards.tree_2.as_flattened_mut());
-    load_on(job, (data_1, data_2), (tree_1, tree_2))
+// Formats a volume, puts these blocks in and keeps them, and reads all its blocks. On sound devices of the right sizes every call is
+// accepted.
+fn take_through<D: Device, T: Device, H: Hash + Copy>(
+    heap: Global,
+    volume: &mut Volume<D, T, H>,
+    sims: &[[u8; 512]],
+    blocks: usize,
+) -> Result<Back, AllocError>
+    requires good { GoodVolume (view (base D.Source.own T.Source.own D.Device.own T.Device.own H.Hash.own) volume.old) blocks }
+    requires few { length sims.now ≤ blocks }
+    ensures { IfOk result (λ back. TakenThrough (base D.Source.own T.Source.own D.Device.own T.Device.own H.Hash.own) volume.old.number volume.old.hash sims.now blocks back.blocks.items back.register) }
+{
+    let mut register = Register::blank();
+    let Ok(()) = volume.format(&mut register) else {
+        unreachable!()
+    };
+    let mut written = writes(heap, sims)?;
+    play(volume, &mut register, &mut written);
+    let mut read = reads(heap, blocks)?;
+    play(volume, &mut register, &mut read);
+    Ok(Back {
+        blocks: blocks_back(heap, &read)?,
+        register,
+    })
+}
+
+// The same over the regions of two cards. They are of any type, since the check does not cover a type argument that has both a cache and
+// a `Memory` in it.
+fn load_on<A: Device + Drop, B: Device + Drop, C: Device + Drop, E: Device + Drop, H: Hash + Copy>(
+    heap: Global,
+    number: u32,
+    hash: H,
+    store: (A, B),
+    tree: (C, E),
+    sims: &[[u8; 512]],
+    geometry: Geometry,
+) -> Result<Back, AllocError>
+    requires store { GoodCard (A.meaning store.0) geometry.blocks × GoodCard (B.meaning store.1) geometry.blocks }
+    requires tree { GoodCard (C.meaning tree.0) (total geometry.blocks) × GoodCard (E.meaning tree.1) (total geometry.blocks) }
+    requires few { length sims.now ≤ geometry.blocks }
+    ensures { let over = pile_source A.Source.own B.Source.own (cache (mirror one other)) in let beside = pile_source C.Source.own E.Source.own (cache (mirror one other)) in IfOk result (λ back. TakenThrough (base over beside (pile_device A.Source.own B.Source.own A.Device.own B.Device.own (cache (mirror one other))) (pile_device C.Source.own E.Source.own C.Device.own E.Device.own (cache (mirror one other))) H.Hash.own) number hash sims.now geometry.blocks back.blocks.items back.register) }
+{
+    let store = cached_mirror(store.0, store.1);
+    let tree = cached_mirror(tree.0, tree.1);
+    let mut volume = Volume::new(store, tree, hash, number);
+    take_through(heap, &mut volume, sims, geometry.blocks)
+}
+
+// The same over two cards in memory.
+fn load_cards<H: Hash + Copy>(
+    heap: Global,
+    number: u32,
+    hash: H,
+    cards: &mut Cards,
+    sims: &[[u8; 512]],
+    geometry: Geometry,
+) -> Result<Back, AllocError>
+    requires cards { AreBlank geometry.blocks cards.old }
+    requires few { length sims.now ≤ geometry.blocks }
+    ensures { IfOk result (λ back. TakenThrough (base box_source box_source box_device box_device H.Hash.own) number hash sims.now geometry.blocks back.blocks.items back.register) }
+{
+    let Regions { data, tree } = cards.regions();
+    load_on(heap, number, hash, data, tree, sims, geometry)
 }
 
 fn add_format(sheet: &Sheet, report: &mut String) -> Result<(), AllocError>
@@ -67,49 +121,33 @@ fn add_read(sheet: &Sheet, report: &mut String) -> Result<(), AllocError>
     writeln!(report, "open\nread: {blocks} blocks, each as written\nshut")
 }
 
-// A line for each stage, all of which went well, and then the report of the label that the register gives.
-#[tactic(auto, unfolding(crate::specs::Trial::load_text))]
-fn report(heap: Global, sheet: &Sheet, register: &Register) -> Result<String, AllocError>
-    ensures { IfOk result (λ t. string_bytes t ≡ load_text sheet.now register.now.kind register.now.root) }
+// A line for each stage, all of which went well, and then the report of the label, made from what came back.
+fn report(heap: Global, sheet: &Sheet, back: &Back) -> Result<String, AllocError>
+    ensures prints { IfOk result (λ t. Prints sheet.now back.now.blocks.items back.now.register.kind back.now.register.root (string_bytes t)) }
+    ensures of_sheet { let s = sheet.now in back.now.blocks.items ≡ sheet_volume s → IfOk result (λ t. string_bytes t ≡ stage_lines s ++ report_with s.tray.value s.blocks.value s.sims.items back.now.register.kind back.now.register.root) }
 {
     let mut report = String::new(heap);
     add_format(sheet, &mut report)?;
     add_written(sheet, &mut report)?;
     add_read(sheet, &mut report)?;
-    let label = report_with(heap, sheet, register.kind, register.root)?;
+    let Register { kind, root, .. } = back.register;
+    let label = report_from(heap, sheet, &back.blocks, kind, root)?;
     report.push_str(label.as_str())?;
     Ok(report)
-}
-
-// A register that has another kind or root than this ends the trial: its box would carry another label than the tray's.
-fn expect(register: &Register, kind: u8, root: [u8; 32]) -> Result<(), Stuck>
-    ensures { OnOk result ((register.now.kind ≡ kind) × (register.now.root ≡ root)) }
-{
-    let kept = register.root;
-    if register.kind == kind && kept == root {
-        Ok(())
-    } else {
-        Err(Stuck::OtherLabel)
-    }
 }
 
 pub(crate) fn load_under<H: Hash + Copy>(
     heap: Global,
     sheet: &Sheet,
     hash: H,
-) -> Result<String, Stuck>
-    ensures { IfOk result (λ t. string_bytes t ≡ load_text sheet.now H.Hash.KIND (root_of (H.Hash.image hash) (sheet_volume sheet.now))) }
+) -> Result<String, AllocError>
+    ensures loaded { IfOk result (λ t. LoadedUnder H.Hash.own hash sheet.now (string_bytes t)) }
+    ensures of_sheet { let s = sheet.now in IfOk result (λ t. string_bytes t ≡ stage_lines s ++ report_with s.tray.value s.blocks.value s.sims.items H.Hash.KIND (root_of (H.Hash.image hash) (sheet_volume s))) }
 {
     let contents = load(heap, sheet)?;
-    let tree = Tree::over(heap, &hash, &contents)?;
-    let mut cards = Cards::blank(heap, contents.geometry())?;
-    let job = Job {
-        heap,
-        sheet,
-        contents: &contents,
-        hash,
-    };
-    let register = load_cards(&job, &mut cards)?;
-    expect(&register, H::KIND, tree.root)?;
-    Ok(report(heap, sheet, &register)?)
+    let geometry = contents.geometry();
+    let sims = &contents.blocks[..sheet.sims.len()];
+    let mut cards = Cards::blank(heap, geometry)?;
+    let back = load_cards(heap, sheet.tray.value, hash, &mut cards, sims, geometry)?;
+    report(heap, sheet, &back)
 }

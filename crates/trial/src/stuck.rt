@@ -14,12 +14,10 @@ pub enum Stuck {
     Format(Refusal),
     // A call of a list is refused.
     Refused { call: Call, refusal: Refusal },
-    // A call could not be made, since its slip was not in hand.
+    // A call was not made, since there was no slip for it.
     NotMade(Call),
     // A read was accepted, and its block is not the one that was written.
     WrongBlock { number: usize },
-    // After all went well the register has another kind or root than the tray's label.
-    OtherLabel,
 }
 
 impl From<AllocError> for Stuck {
@@ -39,11 +37,11 @@ impl fmt::Display for Stage {
         let Stage(call) = *self;
         match call {
             Call::Open => f.write_str("open"),
-            Call::Begin { hand: _ } => f.write_str("begin"),
+            Call::Begin { place: _ } => f.write_str("begin"),
             Call::Read { number } => write!(f, "read: block {number}"),
-            Call::Write { hand: _, number } => write!(f, "write: block {number}"),
-            Call::Keep { hand: _ } => f.write_str("keep"),
-            Call::Leave { hand: _ } => f.write_str("leave"),
+            Call::Write { place: _, number } => write!(f, "write: block {number}"),
+            Call::Keep { place: _ } => f.write_str("keep"),
+            Call::Leave { place: _ } => f.write_str("leave"),
             Call::Shut => f.write_str("shut"),
         }
     }
@@ -62,15 +60,10 @@ impl fmt::Display for Stuck {
                 let number = refusal.number();
                 write!(f, "{}: refusal {number}", Stage(call))
             }
-            Stuck::NotMade(call) => write!(
-                f,
-                "{}: not made, since no slip is in hand",
-                Stage(call)
-            ),
+            Stuck::NotMade(call) => write!(f, "{}: not made, since there was no slip", Stage(call)),
             Stuck::WrongBlock { number } => {
                 write!(f, "read: block {number}: not the block that was written")
             }
-            Stuck::OtherLabel => f.write_str("the register has not the root of the tray's label"),
         }
     }
 }
