@@ -1,0 +1,2 @@
+pub mod Lending
+pub mod Outs
