@@ -298,6 +298,24 @@ fn crooked_card_alone(rt: HostRuntime) {
     }
 }
 
+// A block that is refused when it is evicted is dropped, and no settle tells of it.
+#[test]
+fn dropped_block(rt: HostRuntime) {
+    let mut card = [[1; 512]; 9];
+    let listed = [Listed {
+        block: 0,
+        manner: Manner::Refuses,
+    }];
+    let mut cache = Cache::new(Crooked::new(&listed, Memory::new(card.as_flattened_mut())));
+    for number in 0..9 {
+        assert_eq!(rt; cache.write(number, &[8; 512]), Ok(()));
+    }
+    assert!(rt; cache.settle());
+    let mut area = [7; 512];
+    assert_eq!(rt; cache.read(0, 0, &mut area), refusal(Cause::Medium, 0, 1));
+    assert_eq!(rt; area, [0; 512]);
+}
+
 // Of two entries for one block the first counts, and an entry past the sixteenth counts for nothing.
 #[test]
 fn listed_blocks(rt: HostRuntime) {

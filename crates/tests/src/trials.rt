@@ -45,6 +45,9 @@ fn bad_sheet(rt: HostRuntime) -> Result<(), Fail> {
     };
     let text = format!(in heap; "{failure}")?;
     assert!(rt; text.as_str().starts_with("line 2: "), "{text}");
-    assert_eq!(rt; drill(heap, b"tray 42\nsim 1\n").err(), Some(failure));
+    assert_eq!(rt;
+        drill(heap, b"tray 42\nsim 1\n").err(),
+        Some(Failure::Sheet(failure))
+    );
     Ok(())
 }

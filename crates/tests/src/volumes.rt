@@ -20,7 +20,7 @@ use std::alloc::{AllocError, Global};
 use std::process::Abort;
 use std::test::Fail;
 use tree::contents::Contents;
-use volume::entry::{Call, Entry, Hand, Hands};
+use volume::entry::{Call, Entry};
 use volume::extract::{Pair, extract};
 use volume::look::look;
 use volume::refusal::{Failed, Refusal, Side};
@@ -122,8 +122,8 @@ struct Row {
     left: (u8, u8),
 }
 
-fn writing(hand: Hand, number: usize) -> Call {
-    Call::Write { hand, number }
+fn writing(place: usize, number: usize) -> Call {
+    Call::Write { place, number }
 }
 
 // A call with areas of the right lengths, which leaves them as they are.
@@ -154,11 +154,11 @@ fn read(number: usize, answer: u8, byte: u8) -> Row {
 }
 
 // A write of a block full of this byte, which leaves the first part of the record zero.
-fn write(hand: Hand, number: usize, byte: u8, answer: u8) -> Row {
+fn write(place: usize, number: usize, byte: u8, answer: u8) -> Row {
     Row {
         byte,
         left: (byte, 0),
-        ..plain(writing(hand, number), answer)
+        ..plain(writing(place, number), answer)
     }
 }
 
@@ -215,8 +215,8 @@ fn compare(rt: &impl Abort, entries: &[Entry], rows: &[Row]) {
     }
 }
 
-fn expect_empty(rt: &impl Abort, hand: Option<Slip>) {
-    match hand {
+fn expect_empty(rt: &impl Abort, place: Option<Slip>) {
+    match place {
         None => {}
         Some(slip) => panic!(rt; "slip {} is left", slip.number()),
     }
@@ -224,17 +224,17 @@ fn expect_empty(rt: &impl Abort, hand: Option<Slip>) {
 
 // The calls of a volume of 17 blocks, whose tree has two levels.
 fn story() -> [Row; 34] {
-    let (left, right) = (Hand::Left, Hand::Right);
+    let (left, right) = (0, 1);
     [
-        plain(Call::Begin { hand: left }, 40),
+        plain(Call::Begin { place: left }, 40),
         plain(Call::Read { number: 0 }, 40),
         plain(Call::Shut, 40),
         plain(Call::Open, 0),
         plain(Call::Open, 41),
         plain(writing(left, 16), 255),
-        plain(Call::Begin { hand: left }, 0),
-        plain(Call::Begin { hand: left }, 255),
-        plain(Call::Begin { hand: right }, 42),
+        plain(Call::Begin { place: left }, 0),
+        plain(Call::Begin { place: left }, 255),
+        plain(Call::Begin { place: right }, 42),
         plain(Call::Shut, 42),
         sized(writing(left, 16), 511, 2048, 11),
         sized(writing(left, 16), 512, 2047, 12),
@@ -246,15 +246,15 @@ fn story() -> [Row; 34] {
         write(left, 16, 7, 0),
         read(16, 0, 7),
         read(15, 0, 0),
-        plain(Call::Keep { hand: left }, 0),
+        plain(Call::Keep { place: left }, 0),
         plain(writing(left, 16), 255),
-        plain(Call::Keep { hand: right }, 255),
-        plain(Call::Leave { hand: left }, 255),
-        plain(Call::Begin { hand: right }, 0),
+        plain(Call::Keep { place: right }, 255),
+        plain(Call::Leave { place: left }, 255),
+        plain(Call::Begin { place: right }, 0),
         write(right, 0, 9, 0),
         read(0, 0, 9),
         read(16, 0, 7),
-        plain(Call::Leave { hand: right }, 0),
+        plain(Call::Leave { place: right }, 0),
         plain(Call::Read { number: 0 }, 40),
         // Block 0 was given up, but its tree blocks lie there, and the top one lies over every block.
         plain(Call::Open, 0),
@@ -303,11 +303,9 @@ fn play_story<D: Device + Drop, T: Device + Drop>(
     let mut volume = Volume::keyed(store, tree, KEY, 7);
     let mut register = Register::blank();
     assert_eq!(rt; volume.format(&mut register), Ok(()));
-    let hands = Hands {
-        left: None,
-        right: None,
-    };
-    let Hands { left, right } = volume.replay(&mut register, hands, &mut entries);
+    let mut slips = [None, None];
+    volume.replay(&mut register, &mut slips, &mut entries);
+    let [left, right] = slips;
     expect_empty(rt, left);
     expect_empty(rt, right);
     compare(rt, &entries, &rows);
@@ -331,34 +329,34 @@ fn a_story(rt: HostRuntime) -> Result<(), Fail> {
     )
 }
 
-// Tries the slip of another volume, which is in the right hand. It is handed back each time.
+// Tries the slip of another volume, which lies at the right place. It stays there each time.
 fn slips_of_another() -> [Row; 12] {
-    let (left, right) = (Hand::Left, Hand::Right);
+    let (left, right) = (0, 1);
     [
         plain(writing(right, 0), 40),
-        plain(Call::Keep { hand: right }, 40),
+        plain(Call::Keep { place: right }, 40),
         plain(Call::Open, 0),
         // None is out yet.
         plain(writing(right, 0), 43),
-        plain(Call::Begin { hand: right }, 255),
-        plain(Call::Begin { hand: left }, 0),
+        plain(Call::Begin { place: right }, 255),
+        plain(Call::Begin { place: left }, 0),
         // One is out, but not this one. It is looked at before the areas.
         sized(writing(right, 9), 511, 2047, 43),
-        plain(Call::Keep { hand: right }, 43),
-        plain(Call::Leave { hand: right }, 43),
+        plain(Call::Keep { place: right }, 43),
+        plain(Call::Leave { place: right }, 43),
         write(left, 0, 5, 0),
-        plain(Call::Leave { hand: left }, 0),
-        plain(Call::Leave { hand: right }, 40),
+        plain(Call::Leave { place: left }, 0),
+        plain(Call::Leave { place: right }, 40),
     ]
 }
 
-// Leaves a volume with the slip in hand.
+// Leaves a volume with its slip.
 fn give_back<D: Device, T: Device>(
     rt: &impl Abort,
     volume: &mut Volume<D, T, SipHash>,
-    hand: Option<Slip>,
+    slip: Option<Slip>,
 ) {
-    match hand {
+    match slip {
         None => panic!(rt; "no slip is left"),
         Some(slip) => match volume.leave(slip) {
             Ok(()) => {}
@@ -390,11 +388,9 @@ fn try_slips<D: Device + Drop, T: Device + Drop>(
         Err(refusal) => panic!(rt; "no slip is given out: {}", refusal.number()),
     };
     assert_eq!(rt; right.number(), 8);
-    let hands = Hands {
-        left: None,
-        right: Some(right),
-    };
-    let Hands { left, right } = volume.replay(&mut register, hands, &mut entries);
+    let mut slips = [None, Some(right)];
+    volume.replay(&mut register, &mut slips, &mut entries);
+    let [left, right] = slips;
     expect_empty(rt, left);
     give_back(rt, &mut other, right);
     compare(rt, &entries, &rows);
@@ -549,17 +545,17 @@ fn never_formatted(rt: HostRuntime) {
 
 // Data block 2 flips and data block 5 refuses; block 3 of the card that the tree lies on refuses, which is tree block 2, at level 0.
 fn on_bad_blocks() -> [Row; 9] {
-    let left = Hand::Left;
+    let left = 0;
     [
         plain(Call::Open, 0),
-        plain(Call::Begin { hand: left }, 0),
+        plain(Call::Begin { place: left }, 0),
         read(2, 52, 0),
         read(5, 52, 0),
         read(16, 51, 0),
         write(left, 16, 7, 51),
         write(left, 5, 7, 53),
         read(0, 0, 0),
-        plain(Call::Keep { hand: left }, 0),
+        plain(Call::Keep { place: left }, 0),
     ]
 }
 
@@ -587,11 +583,9 @@ fn bad_blocks_over<D: Device + Drop, T: Device + Drop>(
     let mut volume = Volume::keyed(store, tree, KEY, 7);
     let mut register = Register::blank();
     assert_eq!(rt; volume.format(&mut register), Ok(()));
-    let hands = Hands {
-        left: None,
-        right: None,
-    };
-    let Hands { left, right } = volume.replay(&mut register, hands, &mut entries);
+    let mut slips = [None, None];
+    volume.replay(&mut register, &mut slips, &mut entries);
+    let [left, right] = slips;
     expect_empty(rt, left);
     expect_empty(rt, right);
     compare(rt, &entries, &rows);
@@ -717,15 +711,15 @@ fn hold_back<D: Device + Drop, T: Device + Drop>(
     store: D,
     tree: T,
 ) -> Result<(), Fail> {
-    let left = Hand::Left;
+    let left = 0;
     let rows = [
         plain(Call::Open, 0),
-        plain(Call::Begin { hand: left }, 0),
-        plain(Call::Keep { hand: left }, 44),
-        plain(Call::Begin { hand: left }, 255),
+        plain(Call::Begin { place: left }, 0),
+        plain(Call::Keep { place: left }, 44),
+        plain(Call::Begin { place: left }, 255),
         // Block 1 is read from the cache.
         read(1, 0, 0),
-        plain(Call::Leave { hand: left }, 0),
+        plain(Call::Leave { place: left }, 0),
     ];
     let mut entries = entries_of(heap, &rows)?;
     let mut volume = Volume::keyed(Cache::new(store), tree, KEY, 7);
@@ -738,11 +732,9 @@ fn hold_back<D: Device + Drop, T: Device + Drop>(
     let Ok(mut register) = Register::from_parts(3, 2, root) else {
         return Err(Fail::new("a register is refused"));
     };
-    let hands = Hands {
-        left: None,
-        right: None,
-    };
-    let Hands { left, right } = volume.replay(&mut register, hands, &mut entries);
+    let mut slips = [None, None];
+    volume.replay(&mut register, &mut slips, &mut entries);
+    let [left, right] = slips;
     expect_empty(rt, left);
     expect_empty(rt, right);
     compare(rt, &entries, &rows);
