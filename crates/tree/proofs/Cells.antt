@@ -1,10 +1,11 @@
 -- Cells packed into blocks: what one changed cell changes.
-use Rattle.std.proofs.Common.{◌≡◌, ℕ, zero, suc, ◌+◌, ◌-◌, ◌*◌, ◌/◌, ◌%◌, ◌<◌, ◌≤◌, min, List, [], ◌∷◌, ◌++◌, length, get_or, take, drop, set, replicate, sym, refl, ap, ◌∙◌, ⊎_elim, append_assoc, append-nil, le_of_suc-le-suc, arith, length-append, length-drop, length-set, length-take, drop-set-lt, drop_at}
+use Rattle.std.proofs.Common.{◌≡◌, ℕ, zero, suc, ◌+◌, ◌-◌, ◌*◌, ◌/◌, ◌%◌, ◌<◌, ◌≤◌, min, List, [], ◌∷◌, ◌++◌, length, get_or, take, drop, set, replicate, sym, refl, ap, ◌∙◌, subst, ⊎_elim, append_assoc, append-nil, le_of_suc-le-suc, arith, length-append, length-drop, length-set, length-take, drop-set-lt, drop_at}
 use lib.Seq.{take-set-lt, take-set-le, drop-set-add, take-append-le, drop-append-le, take-append-add, drop-append-add}
 use Rattle.std.proofs.lemmas.List.FromFn.{length-map-range_with_len, get_or-map-range_with_len}
 use Rattle.std.proofs.lemmas.List.Concat.{flat_map-append}
 use Rattle.std.proofs.lemmas.List.Elements.{All-take, All-drop}
-use Rattle.std.proofs.lemmas.List.{same_lists, get_or-set_same, get_or-set_other, take_all, take_at, nil_from_length, replicate-append-replicate}
+use Rattle.std.proofs.lemmas.List.{same_lists, get_or-set_same, get_or-set_other, take_all, take_at, drop-replicate, nil_from_length, replicate-append-replicate}
+use borrow.Rule.Slice.PartMut.{put_mid}
 use Rattle.std.proofs.lemmas.Bool.{cases_lt, cases_order}
 use Rattle.std.specs.List.{All, flat_map}
 use Rattle.geometry.specs.Geometry.{up}
@@ -120,6 +121,19 @@ unfolding side_by_side
 flat_padded cs few =
     let e : 32 * (16 - length cs) ≡ 512 - 32 * length cs = omega arith in
     flat_map-append (λ c. c) cs (replicate (16 - length cs) (replicate 32 0)) ∙ ap (λ l. flat cs ++ l) (zeros_flat (16 - length cs) ∙ ap (λ n. replicate n 0) e)
+
+-- a cell written after those that stand side by side
+pub side_more : (cs : List (List ℕ)) (d : List ℕ) (i k : ℕ) → Wide cs → length cs ≡ i → k ≡ 32 → put_mid (32 * i) k (side_by_side cs) d ≡ side_by_side (cs ++ d ∷ [])
+unfolding side_by_side
+side_more cs d i k w long size =
+    let zeros : List ℕ = replicate (512 - 32 * length cs) 0 in
+    let rest : List ℕ = replicate (512 - 32 * length (cs ++ d ∷ [])) 0 in
+    let here : length (flat cs) ≡ 32 * i = omega (arith, length-flat cs w) in
+    let fewer : 512 - 32 * length cs - k ≡ 512 - 32 * length (cs ++ d ∷ []) = omega (arith, length-append cs (d ∷ [])) in
+    let under : drop (32 * i) (flat cs ++ zeros) ≡ zeros = drop_at (flat cs) zeros (32 * i) here in
+    let past : drop k zeros ≡ rest = subst (λ n. drop k zeros ≡ replicate n 0) fewer (drop-replicate k (512 - 32 * length cs) 0) in
+    let both : flat (cs ++ d ∷ []) ≡ flat cs ++ d = flat_map-append (λ c. c) cs (d ∷ []) ∙ ap (λ l. flat cs ++ l) (append-nil d) in
+    (λ j. take_at (flat cs) zeros (32 * i) here j ++ (d ++ drop k (under j))) ∙ ap (λ l. flat cs ++ (d ++ l)) past ∙ sym (append_assoc (flat cs) d rest) ∙ ap (λ l. l ++ rest) (sym both)
 
 -- the first block has the first sixteen cells, or all where there are fewer
 next_block : (cs ds : List (List ℕ)) → length cs ≡ min 16 (length (cs ++ ds)) → (j : ℕ) (e : List ℕ) → j < up (length (cs ++ ds)) → get_or (pack (cs ++ ds)) j e ≡ get_or (side_by_side cs ∷ pack ds) j e

@@ -1,15 +1,24 @@
 -- A block filled image by image, and a level block by block.
-use Rattle.std.proofs.Common.{◌≡◌, ℕ, suc, ◌+◌, ◌-◌, ◌<◌, ◌≤◌, min, List, [], ◌∷◌, ◌++◌, map, length, get_or, take, set, replicate, sym, ap, ◌∙◌, append_assoc, append-nil, arith, length-append, length-set}
+use Rattle.std.proofs.Common.{◌≡◌, ℕ, suc, ◌+◌, ◌-◌, ◌*◌, ◌<◌, ◌≤◌, min, List, [], ◌∷◌, ◌++◌, map, length, get_or, take, set, replicate, sym, ap, ◌∙◌, append_assoc, append-nil, arith, length-append, length-set}
 use lib.ListN.{length-map}
 use Rattle.std.proofs.lemmas.List.Elements.{All-map}
 use Rattle.std.proofs.lemmas.List.{length-take-le, map-append, map_more, nil_from_length, set_at, take_all, take_more_set}
 use Rattle.geometry.specs.Geometry.{up}
 use Rattle.tree.specs.Layout.{side_by_side, pack}
-use Rattle.tree.proofs.Cells.{Wide, flat, flat_padded, length-pack, pack_next}
+use Rattle.tree.proofs.Cells.{Wide, flat, flat_padded, length-pack, pack_next, side_more}
+use borrow.Rule.Slice.PartMut.{put_mid}
 
 module _ (image : List ℕ → List ℕ) where
   pub wide_images : ((block : List ℕ) → length (image block) ≡ 32) → (blocks : List (List ℕ)) → Wide (map image blocks)
   wide_images wide blocks = All-map (λ c. length c ≡ 32) image blocks (λ k d h. wide (get_or blocks k d))
+
+  -- the image of the next block is written after those of the blocks before it
+  pub image_more : ((block : List ℕ) → length (image block) ≡ 32) → (blocks : List (List ℕ)) (made cell : List ℕ) (i k : ℕ) → i < length blocks → k ≡ 32 → made ≡ side_by_side (map image (take i blocks)) → cell ≡ image (get_or blocks i []) → put_mid (32 * i) k made cell ≡ side_by_side (map image (take (i + 1) blocks))
+  image_more wide blocks made cell i k h size so_far read =
+      let long : length (map image (take i blocks)) ≡ i = length-map (take i blocks) image ∙ length-take-le i blocks (omega arith) in
+      (λ j. put_mid (32 * i) k (so_far j) (read j))
+      ∙ side_more (map image (take i blocks)) (image (get_or blocks i [])) i k (wide_images wide (take i blocks)) long size
+      ∙ ap side_by_side (sym (map_more image blocks i [] h))
 
   -- the images of the first i blocks, and cells of zeros in place of the others
   abbrev pub first : List (List ℕ) → ℕ → List (List ℕ)

@@ -8,18 +8,16 @@ use crate::contents::{Contents, zero_blocks};
 use digest::hash::Hash;
 use std::alloc::{AllocError, Global};
 
-// Makes a block of the images of up to sixteen blocks.
-#[tactic(auto, using(crate::proofs::Levels::first_more, crate::proofs::Levels::first_all))]
+// Makes a block of the images of up to sixteen blocks, each put straight into its cell; the cells after the last are zero.
 fn fill_block<H: Hash>(hash: &H, below: &[[u8; 512]], block: &mut [u8; 512])
     requires { length below.now ≤ 16 }
     ensures { block.new ≡ side_by_side (map (H.Hash.image hash.now) below.now) }
 {
-    let mut cells = [[0; 32]; 16];
+    *block = [0; 512];
     // By number, since nothing is known afterwards of what a `zip` with `iter_mut` has lent.
     for (i, lower) in below.iter().enumerate() {
-        cells[i] = hash.image_of(lower);
+        block[32 * i..32 * i + 32].copy_from_slice(&hash.image_of(lower));
     }
-    block.copy_from_slice(cells.as_flattened());
 }
 
 // Makes a level of the images of the blocks below it.
