@@ -16,14 +16,16 @@ pub fn read_sheet(heap: Global, text: &[u8]) -> Result<Sheet, SheetError>
     ensures listed { IfOk result (λ s. Listed text.now (plain_sheet s)) }
 {
     let mut reading = Reading::new(heap);
+    let mut last = 0;
     for (i, line) in (Lines { text }).enumerate() {
         reading.take_line(line).map_err(|fault| fault.at(i + 1))?;
+        last = i + 1;
     }
-    // A header that is missing is reported at the line after the last; only then are the lines counted.
+    // A header that is missing is reported at the line after the last.
     match reading.finish() {
         Ok(sheet) => Ok(sheet),
         Err(cause) => Err(SheetError::Bad {
-            line: Lines { text }.count() + 1,
+            line: last + 1,
             cause,
         }),
     }

@@ -1,5 +1,5 @@
 // The lines of a text, and the words of a line.
-ghost use Rattle.std.specs.Prelude.{◌≡◌, ◌^◌, ◌<◌, ◌∷◌, length};
+ghost use Rattle.std.specs.Prelude.{◌≡◌, ◌^◌, ◌<◌, [], ◌∷◌, length, MatchOption};
 ghost use Rattle.std.specs.Iterator.{YieldsFirstRef, item_count};
 ghost use Rattle.subscriber.specs.Text.{blank, lines, words};
 
@@ -46,6 +46,17 @@ fn is_blank(b: u8) -> bool
     matches!(b, b' ' | b'\t' | b'\r')
 }
 
+// The first word of a line, and what follows it. Not inlined, since its loops are slower within a caller that has more to keep at hand.
+#[inline(never)]
+fn first_word(line: &[u8]) -> Option<(&[u8], &[u8])>
+    ensures { MatchOption result (words line.now ≡ []) (λ cut. words line.now ≡ cut.0.now ∷ words cut.1.now) }
+{
+    let start = line.iter().position(|b| !is_blank(*b))?;
+    let line = &line[start..];
+    let end = line.iter().take_while(|b| !is_blank(**b)).count();
+    Some(line.split_at(end))
+}
+
 // The words of a line, which blanks part.
 #[derive(Drop)]
 pub(crate) struct Words<'a> {
@@ -60,10 +71,14 @@ impl<'a> Iterator for Words<'a> {
     ghost remaining = { item_count (λ s. words s.text.now) };
 
     fn next(&mut self) -> Option<&'a [u8]> {
-        let start = self.text.iter().position(|b| !is_blank(*b))?;
-        let line = &self.text[start..];
-        let end = line.iter().take_while(|b| !is_blank(**b)).count();
-        let (word, rest) = line.split_at(end);
+        if self.text.is_empty() {
+            return None;
+        }
+        let Some((word, rest)) = first_word(self.text) else {
+            // So that a further call does not go over these blanks again.
+            self.text = &[];
+            return None;
+        };
         self.text = rest;
         Some(word)
     }
