@@ -22,6 +22,8 @@ pub fn load(heap: Global, sheet: &Sheet) -> Result<Contents, AllocError>
     ensures { IfOk result (λ c. c.blocks.items ≡ volume_of sheet.now.sims.items sheet.now.blocks.value) }
 {
     let mut blocks = sim_blocks(heap, &sheet.sims)?;
+    // Room for all blocks and no more, where `resize` would double what there is.
+    blocks.reserve_exact(usize::from(sheet.blocks.value) - sheet.sims.len())?;
     blocks.resize(usize::from(sheet.blocks.value), [0; 512])?;
     Ok(Contents { blocks })
 }
