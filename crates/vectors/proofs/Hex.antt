@@ -1,7 +1,9 @@
 -- What a text writes, as the crate `hex` reads it.
-use Rattle.std.proofs.Common.{MatchResult, ◌≡◌, ℕ, zero, suc, ◌+◌, ◌*◌, ◌/◌, ◌%◌, inl, inr, List, [], ◌∷◌, length, Some, None, Ok, Err, Option, Result, sym, refl, ap, ◌∙◌, arith}
+use Rattle.std.proofs.Common.{MatchResult, ◌≡◌, ◌==◌, ℕ, zero, suc, ◌+◌, ◌*◌, ◌/◌, ◌%◌, ◌&&◌, inl, inr, List, [], ◌∷◌, length, Some, None, is_some, Ok, Err, Option, Result, sym, refl, ap, ◌∙◌, arith}
 use Rattle.std.proofs.lemmas.Bool.{cases_eq, eq-eqb, ne_eqb}
 use Rattle.std.proofs.lemmas.Bool.Decides.{nat_tests}
+use Rattle.std.specs.Char.{is_ascii_hexdigit}
+use Rattle.std.specs.List.{list_all}
 use Rattle.std.specs.Result.{result_ok}
 use Rattle.std.specs.Simd.{first_chunks}
 use Rattle.hex.specs.Hex.{hex_digit_value, digit_or_error, pair_value, decode_pairs, decode_sized, ◌>>=◌}
@@ -42,6 +44,32 @@ unhex_is text = elim (cases_eq (length text % 2) 0) [
       rw (ne_eqb (length text % 2) 1 (λ e. omega arith), eq-eqb (length text / 2) (length text / 2) refl, eq-eqb (length text % 2) 0 even)
       (pairs_are (length text / 2) 0 text (omega arith))
   | inr odd ↦ rw (eq-eqb (length text % 2) 1 (omega arith), ne_eqb (length text % 2) 0 odd)
+]
+
+digit_tested : (c : ℕ) → is_some (hex_digit c) ≡ is_ascii_hexdigit c
+digit_tested c = grind (arith, nat_tests)
+
+pair_tested : (h l : Option ℕ) (r : Option (List ℕ)) → is_some (before (hex_joined h l) r) ≡ (is_some h && (is_some l && is_some r))
+pair_tested None l r = refl
+pair_tested (Some x) None r = refl
+pair_tested (Some x) (Some y) None = refl
+pair_tested (Some x) (Some y) (Some ys) = refl
+
+pairs_tested : (n : ℕ) (text : List ℕ) → length text ≡ n + n → is_some (hex_pairs (first_chunks 2 n text)) ≡ list_all is_ascii_hexdigit text
+pairs_tested zero [] h = refl
+pairs_tested zero (a ∷ text) h = absurd (omega arith)
+pairs_tested (suc n) [] h = absurd (omega arith)
+pairs_tested (suc n) (a ∷ []) h = absurd (omega arith)
+pairs_tested (suc n) (a ∷ b ∷ text) h =
+    pair_tested (hex_digit a) (hex_digit b) (hex_pairs (first_chunks 2 n text))
+    ∙ (λ k. digit_tested a k && (digit_tested b k && pairs_tested n text (omega arith) k))
+
+-- a text can be read if its length is even and each byte is a digit
+pub readable : (text : List ℕ) → is_some (unhex text) ≡ (length text % 2 == 0 && list_all is_ascii_hexdigit text)
+unfolding unhex
+readable text = elim (cases_eq (length text % 2) 0) [
+  | inl even ↦ rw (eq-eqb (length text % 2) 0 even) (pairs_tested (length text / 2) text (omega arith))
+  | inr odd ↦ rw (ne_eqb (length text % 2) 0 odd)
 ]
 
 -- what decoding into room for half as many bytes leaves there

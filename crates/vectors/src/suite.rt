@@ -1,5 +1,5 @@
 // The suites of vectors, one to a hash: where each stands, how its lines write a message, and the hash that it tries.
-ghost use Rattle.std.specs.Prelude.{◌≡◌, List, ℕ, IfOk, Decides, MatchOption, vec_items};
+ghost use Rattle.std.specs.Prelude.{◌≡◌, List, ℕ, IfOk, Decides, MatchOption, is_some, vec_items};
 ghost use Rattle.std.specs.Option.{option_map};
 ghost use Rattle.vectors.specs.Hex.{unhex};
 ghost use Rattle.vectors.specs.Suite.{Writes, counts, hash_of, spells};
@@ -75,10 +75,21 @@ fn written(heap: Global, word: &str) -> Result<Option<Vec<u8>>, AllocError>
     bytes_of(heap, word.as_bytes())
 }
 
+// Whether a text writes bytes.
+fn is_hex(text: &[u8]) -> bool
+    ensures { result ≡ is_some (unhex text.now) }
+{
+    text.len() % 2 == 0 && text.iter().all(|b| b.is_ascii_hexdigit())
+}
+
 // The bytes that a text writes, two hexadecimal digits to a byte, if it writes any.
 pub(crate) fn bytes_of(heap: Global, text: &[u8]) -> Result<Option<Vec<u8>>, AllocError>
     ensures { IfOk result (λ o. option_map vec_items o ≡ unhex text.now) }
 {
+    // A text that cannot be read takes no room, however long it is.
+    if !is_hex(text) {
+        return Ok(None);
+    }
     let mut bytes = vec![in heap; 0u8; text.len() / 2]?;
     match decode_to_slice(text, bytes.as_mut_slice()) {
         Ok(()) => Ok(Some(bytes)),
